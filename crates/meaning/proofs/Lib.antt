@@ -1,0 +1,15 @@
+-- The laws of the meaning.
+pub mod Bool
+pub mod Below
+pub mod Enabled
+pub mod Well
+pub mod Closure
+pub mod Fired
+pub mod Pays
+pub mod Sequence
+pub mod Bytes
+pub mod Image
+pub mod Fits
+pub mod Demand3
+pub mod Source
+pub mod Worked

@@ -1,0 +1,35 @@
+-- The nets that the page marks P come out as it says: each case is computed by the definitions themselves.
+use mathlib.Core.Path.{_≡_, refl, sym, ap₂, _∙_}
+use mathlib.Core.Bool.{Bool, true, _&&_}
+use mathlib.Core.List.{List, [], _∷_, _++_}
+use Rattle.meaning.specs.Below.{some, every, sum, first, members, within}
+use Rattle.meaning.specs.Bytes.{number, bytes, bit, bits, cut}
+use Rattle.meaning.specs.Table.{kinds, place, transition, total, ceiling, table}
+use Rattle.meaning.specs.Answer.{decide}
+use Rattle.meaning.specs.Priority.{through, above}
+use Rattle.meaning.specs.Defined.{bad-length, bad-kind, interval, bad-field, same, twice, fault, faulty, names-place, names-transition, names-second, unknown, empty, arc-at-place, arc-at-transition, isolated, circle, some-two, conflict, complementary, inhibited, settled, unsettled, clashes, table-checks}
+use Rattle.meaning.specs.Image.{state, join, image, image-bytes, fresh, wrong-place, most, most-order, wrong-transition, wrong, state-checks}
+use Rattle.meaning.specs.Cycle.{stops, enabled, active, risen, counted, falling, as-wanted, in-time, firable, withdrawn, added, residual, rule, rounds, fired, marked, executed, starved, reset, rising, record-of, cycle, overfull}
+use Rattle.meaning.specs.Calls.{start-checks, start, words-of, word-checks, run-checks, trace, run}
+use Rattle.meaning.proofs.Bool.{and-left, and-right, and-true}
+use Rattle.meaning.specs.Nets.{N, N-unsettled, net7, net8, net6, alike, word-bytes, fired-sets, counts-of, passes, net5, net9, net10, nets-1-to-5, nets-6-to-10, all-pass, Case, nets}
+
+-- The cases of nets 1 to 5, and of nets 6 to 10.
+first-half : all-pass nets-1-to-5 ≡ true
+unfolding some every sum first members within number bytes bit bits cut kinds place transition total ceiling table decide through above bad-length bad-kind interval bad-field same twice fault faulty names-place names-transition names-second unknown empty arc-at-place arc-at-transition isolated circle some-two conflict complementary inhibited settled unsettled clashes table-checks state join image image-bytes fresh wrong-place most most-order wrong-transition wrong state-checks stops enabled active risen counted falling as-wanted in-time firable withdrawn added residual rule rounds fired marked executed starved reset rising record-of cycle overfull start-checks start words-of word-checks run-checks trace run N N-unsettled net7 net8 net6 alike word-bytes fired-sets counts-of passes net5 net9 net10 nets-1-to-5 nets-6-to-10 all-pass
+first-half = refl
+
+second-half : all-pass nets-6-to-10 ≡ true
+unfolding some every sum first members within number bytes bit bits cut kinds place transition total ceiling table decide through above bad-length bad-kind interval bad-field same twice fault faulty names-place names-transition names-second unknown empty arc-at-place arc-at-transition isolated circle some-two conflict complementary inhibited settled unsettled clashes table-checks state join image image-bytes fresh wrong-place most most-order wrong-transition wrong state-checks stops enabled active risen counted falling as-wanted in-time firable withdrawn added residual rule rounds fired marked executed starved reset rising record-of cycle overfull start-checks start words-of word-checks run-checks trace run N N-unsettled net7 net8 net6 alike word-bytes fired-sets counts-of passes net5 net9 net10 nets-1-to-5 nets-6-to-10 all-pass
+second-half = refl
+
+-- Two lists of cases pass together if each does.
+both : (cs ds : List Case) → all-pass cs ≡ true → all-pass ds ≡ true → all-pass (cs ++ ds) ≡ true
+unfolding all-pass
+both [] ds p q = q
+both (c ∷ cs) ds p q = and-true (and-left (passes c) (all-pass cs) p) (both cs ds (and-right (passes c) (all-pass cs) p) q)
+
+-- Every net that the page marks P passes.
+pub worked : all-pass nets ≡ true
+unfolding nets
+worked = both nets-1-to-5 nets-6-to-10 first-half second-half

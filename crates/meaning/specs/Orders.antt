@@ -1,0 +1,35 @@
+-- Document 01, "One cycle" and demand 3, as statements: the sets that meet definition 6, and firing the members of a set one by one.
+use mathlib.Core.Bool.{Bool, true, false}
+use mathlib.Core.List.{List, [], _∷_}
+use mathlib.Core.Path.{_≡_}
+use Prim.Native.Nat.{ℕ, _+_, _-_, _≤_}
+use lib.Dec.{eqb}
+use Rattle.meaning.specs.Table.{Table}
+use Rattle.meaning.specs.Image.{State}
+use Rattle.meaning.specs.Cycle.{rule, firable, withdrawn, added}
+
+-- The set F meets definition 6 at a state after its falling edge: exactly those are in it that are firable and enabled by M less the basic
+-- weights of the members of F above them.
+abbrev pub Meets : Table → State → ℕ → (ℕ → Bool) → Type 0
+Meets tb s word F = (t : ℕ) → F t ≡ rule tb (s .tokens) (firable tb s word) F t
+
+-- What transition t alone takes from place p, and what it puts there.
+abbrev pub takes : Table → ℕ → ℕ → ℕ
+takes tb t p = withdrawn tb (λ u. eqb t u) p
+
+abbrev pub puts : Table → ℕ → ℕ → ℕ
+puts tb t p = added tb (λ u. eqb t u) p
+
+-- Fire the transitions of a list one by one, each taking and then putting, with no ceiling on tokens and without asking test or inhibitor
+-- arcs: each finds the tokens that it takes, and the marking m becomes m′.
+pub data One-by-one (tb : Table) : (ℕ → ℕ) → List ℕ → (ℕ → ℕ) → Type 0 where
+  done : {m : ℕ → ℕ} → One-by-one tb m [] m
+  fire : {m m′ : ℕ → ℕ} {t : ℕ} {ts : List ℕ} → ((p : ℕ) → takes tb t p ≤ m p)
+      → One-by-one tb (λ p. m p - takes tb t p + puts tb t p) ts m′ → One-by-one tb m (t ∷ ts) m′
+
+-- One list is another in some order.
+pub data Order : List ℕ → List ℕ → Type 0 where
+  none : Order [] []
+  keep : {x : ℕ} {xs ys : List ℕ} → Order xs ys → Order (x ∷ xs) (x ∷ ys)
+  swap : {x y : ℕ} {xs : List ℕ} → Order (x ∷ y ∷ xs) (y ∷ x ∷ xs)
+  again : {xs ys zs : List ℕ} → Order xs ys → Order ys zs → Order xs zs
