@@ -12,4 +12,7 @@ pub mod Image
 pub mod Fits
 pub mod Demand3
 pub mod Source
+pub mod Run
+pub mod Words
+pub mod Outcomes
 pub mod Worked
