@@ -1,4 +1,5 @@
--- The laws of the meaning.
+-- The laws of the meaning. The worked nets come first, so that a wrong definition meets them first.
+pub mod Worked
 pub mod Bool
 pub mod Below
 pub mod Enabled
@@ -15,4 +16,3 @@ pub mod Source
 pub mod Run
 pub mod Words
 pub mod Outcomes
-pub mod Worked

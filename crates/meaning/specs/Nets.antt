@@ -148,6 +148,36 @@ nets-6-to-10 =
 unfoldable pub nets : List Case
 nets = nets-1-to-5 ++ nets-6-to-10
 
+-- Net 11: t0 and t1 take from place 0, t1 and t2 from place 1; t0 and t2 stand above t1.
+unfoldable pub net11 : List ℕ
+net11 =
+    place 0 1 ++ place 1 1 ++ untimed 0 ++ untimed 1 ++ untimed 2 ++ basic 0 0 ++ basic 0 1 ++ basic 1 1 ++ basic 1 2 ++ over 0 1 ++ over 2 1
+
+-- Net 12: t0 and t1 take from place 0; t0 takes 2 from place 1, which has an inhibitor arc of weight w to t1.
+unfoldable pub net12 : ℕ → List ℕ
+net12 w = place 0 1 ++ place 1 2 ++ untimed 0 ++ untimed 1 ++ basic 0 0 ++ basic 0 1 ++ rec 3 1 0 0 2 0 ++ rec 3 1 1 2 w 0
+
+-- One token, which t0 takes and puts back; t1, below it, takes too.
+unfoldable pub put-back : List ℕ
+put-back = place 0 1 ++ untimed 0 ++ untimed 1 ++ basic 0 0 ++ post 0 0 ++ basic 0 1 ++ over 0 1
+
+-- Two full places, and t0 posts to both.
+unfoldable pub two-full : List ℕ
+two-full = place 0 65535 ++ place 1 65535 ++ untimed 0 ++ post 0 0 ++ post 1 0
+
+-- Cases beside the page's: nets 11 and 12, a second record of a place with a byte that must be 0, and the two nets above.
+unfoldable pub beside : List Case
+beside =
+    fires net11 (0 ∷ []) (5 ∷ [])
+    ∷ fires (net12 2) (0 ∷ []) (1 ∷ [])
+    ∷ refusal (net12 1) 9 1
+    ∷ refusal (net12 3) 9 1
+    ∷ refusal (place 0 1 ++ rec 1 0 1 0 1 0) 3 1
+    ∷ refusal (place 0 1 ++ place 0 1) 4 1
+    ∷ fires put-back (0 ∷ []) (1 ∷ [])
+    ∷ case two-full (0 ∷ []) (13 ∷ 0 ∷ 0 ∷ []) []
+    ∷ []
+
 -- Two lists of numbers are the same.
 unfoldable pub alike : List ℕ → List ℕ → Bool
 alike [] [] = true
