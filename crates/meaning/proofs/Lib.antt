@@ -1,5 +1,5 @@
 -- The laws of the meaning. The worked nets come first, so that a wrong definition meets them first.
-pub mod Worked
+pub mod Bench
 pub mod Bool
 pub mod Below
 pub mod Enabled

@@ -172,7 +172,7 @@ beside =
     ∷ fires (net12 2) (0 ∷ []) (1 ∷ [])
     ∷ refusal (net12 1) 9 1
     ∷ refusal (net12 3) 9 1
-    ∷ refusal (place 0 1 ++ rec 1 0 1 0 1 0) 3 1
+    ∷ refusal (place 0 1 ++ rec 1 0 0 0 1 1) 3 1
     ∷ refusal (place 0 1 ++ place 0 1) 4 1
     ∷ fires put-back (0 ∷ []) (1 ∷ [])
     ∷ case two-full (0 ∷ []) (13 ∷ 0 ∷ 0 ∷ []) []
