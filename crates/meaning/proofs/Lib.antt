@@ -1,18 +1,33 @@
 -- The laws of the meaning. The worked nets come first, so that a wrong definition meets them first.
 pub mod Bench
+-- finite questions and bytes
 pub mod Bool
 pub mod Below
-pub mod Enabled
-pub mod Well
+pub mod Bytes
+pub mod Image
+-- the answer table, in both directions
+pub mod Decide
+pub mod Walk
+pub mod Reflect
+pub mod Shows
+pub mod Same
+pub mod Faults
 pub mod Closure
+pub mod Rows
+pub mod Tables
+pub mod Sound
+pub mod Wrong
+pub mod Answers
+-- one cycle over an accepted table
+pub mod Well
+pub mod Enabled
 pub mod Fired
 pub mod Pays
 pub mod Sequence
-pub mod Bytes
-pub mod Image
 pub mod Fits
-pub mod Demand3
 pub mod Source
+-- runs and outcomes
 pub mod Run
 pub mod Words
 pub mod Outcomes
+pub mod Demand3
