@@ -1,6 +1,6 @@
 -- The answers of check, start and run are the first that document 01's table says: each list of checks says and catches its rows.
 use mathlib.Core.Bool.{Bool, true, false, cond, not, _||_}
-use mathlib.Core.List.{List, [], _∷_, _++_, append-assoc}
+use mathlib.Core.List.{List, _++_, append-assoc}
 use mathlib.Core.Path.{_≡_, refl, sym, ap, _∙_}
 use mathlib.Core.Logic.{_↔_, Iff·trans, _⊎_, inl, inr, ⊎-elim}
 use Prim.Native.Nat.{ℕ, _+_, _*_, _/_, _%_, _≤_, _<_}
@@ -8,19 +8,17 @@ use native.Mathlib.Omega.{arith}
 use lib.Dec.{ltb, eqb}
 use lib.ListN.{length}
 use borrow.Author.Tests.{eqb-true, not-false}
-use Rattle.meaning.specs.Below.{first}
-use Rattle.meaning.specs.Table.{Table, table}
-use Rattle.meaning.specs.Priority.{above}
+use Rattle.meaning.specs.Table.{table}
 use Rattle.meaning.specs.Answer.{Answer, accepted, refused, Check, decide}
 use Rattle.meaning.specs.Defined.{table-checks, check}
-use Rattle.meaning.specs.Image.{image, image-bytes, fresh, wrong, state-checks}
-use Rattle.meaning.specs.Calls.{Start, start, start-checks, words-of, word-checks, run-checks, Trace, stopped, and-then, trace, Run, ran, run}
-use Rattle.meaning.specs.Cycle.{cycle, overfull}
-use Rattle.meaning.specs.Says.{Above, Table-says, Start-says, Run-says, First, stage}
-use Rattle.meaning.proofs.Decide.{All, Refuses}
+use Rattle.meaning.specs.Image.{image, wrong, state-checks}
+use Rattle.meaning.specs.Calls.{Start, start, start-checks, words-of, word-checks, run-checks, Trace, trace, Run, ran, run}
+use Rattle.meaning.specs.Says.{Table-says, Start-says, Run-says, First, stage}
+use Rattle.meaning.proofs.Decide.{All, Refuses, Form, decide-form}
 use Rattle.meaning.proofs.Walk.{Caught, Speaks, refuses, accepts, all-append, speaks-append, caught-append, caught-behind, caught-once, caught-here, skip}
 use Rattle.meaning.proofs.Tables.{table-speaks, table-refusing, table-catches, table-below, place-or-transition}
 use Rattle.meaning.proofs.Sound.{Sound-table, clean-sound}
+use Rattle.meaning.proofs.Run.{trace-number}
 use Rattle.meaning.proofs.Wrong.{wrong-place-decides, wrong-transition-decides, wrong-at-place, wrong-at-transition}
 use Rattle.meaning.proofs.Reflect.{Decides, eq-decides, lt-decides, or-decides, not-decides}
 
@@ -32,18 +30,6 @@ start-answer bs img = go (eqb (decide (start-checks bs img) (accepted 0) .number
     go : (b : Bool) (x y : Start) {a : Answer} → x .answer ≡ a → y .answer ≡ a → cond b x y .answer ≡ a
     go true x y e f = e
     go false x y e f = f
-
--- A trace ends with 0 or with 13.
-trace-number : (tb : Table) (ws img : List ℕ) → (trace tb ws img .number ≡ 0) ⊎ (trace tb ws img .number ≡ 13)
-unfolding trace
-trace-number tb [] img = inl refl
-trace-number tb (w ∷ ws) img =
-    go (ltb (first 128 (overfull tb (cycle tb img w .after))) 128) _ _ refl (trace-number tb ws (image-bytes (cycle tb img w .after)))
-  where
-    go : (b : Bool) (x y : Trace) → x .number ≡ 13 → (y .number ≡ 0) ⊎ (y .number ≡ 13)
-        → (cond b x y .number ≡ 0) ⊎ (cond b x y .number ≡ 13)
-    go true x y e h = inr e
-    go false x y e h = h
 
 -- The checks of run, the table's before the others.
 abbrev run-list : List ℕ → List ℕ → List ℕ → List ℕ → List Check
@@ -215,7 +201,7 @@ run-catches bs img ws report n w (Run-says.room h) =
     (skip _ _ (λ j e. omega arith) (λ c. caught-once _ 12 0 _ (room-decides ws report .1 h)))
 
 -- The checks of run decide for the first that is said, and let the words be run where nothing is.
-run-stops : (bs img ws report : List ℕ) (n w : ℕ) → 0 < n
+pub run-stops : (bs img ws report : List ℕ) (n w : ℕ) → 0 < n
     → (decide (run-checks bs img ws report) (accepted 0) ≡ refused n w) ↔ First (Run-says bs img ws report) n w
 run-stops bs img ws report n w p =
     rw (run-list-is bs img ws report)
@@ -234,3 +220,7 @@ pub run-refuses : (bs img ws report : List ℕ) (n w : ℕ) → 0 < n → n < 13
     → (run bs img ws report .answer ≡ refused n w) ↔ First (Run-says bs img ws report) n w
 run-refuses bs img ws report n w p q =
     Iff·trans (run-answer bs img ws report n w p q) (run-stops bs img ws report n w p)
+
+-- What run's checks decide is the acceptance, or a refusal before any cycle.
+pub run-form : (bs img ws report : List ℕ) → Form (decide (run-checks bs img ws report) (accepted 0))
+run-form bs img ws report = rw (run-list-is bs img ws report) (decide-form (run-list bs img ws report) (run-refusing bs img ws report))

@@ -1,5 +1,5 @@
 -- What `some`, `every`, `sum`, `first`, `members` and `within` say of the numbers below n: each by induction on n.
-use mathlib.Core.Bool.{Bool, true, false, cond, _&&_, _||_, or-assoc, or-false as or-false-law}
+use mathlib.Core.Bool.{Bool, true, false, cond, _||_, or-assoc, or-false as or-false-law}
 use mathlib.Core.List.{List, [], _∷_, _++_}
 use mathlib.Core.Path.{_≡_, refl, sym, ap, _∙_, subst}
 use mathlib.Core.Logic.{_⊎_, inl, inr, ⊎-elim}
@@ -7,9 +7,9 @@ use Prim.Native.Nat.{ℕ, zero, suc, _+_, _≤_, _<_}
 use native.Mathlib.Nat.{not-suc-le-zero, le-of-suc-le-suc, eq-or-lt-of-le, lt-irrefl}
 use native.Mathlib.Omega.{arith}
 use lib.Dec.{ltb, eqb}
-use borrow.Author.Tests.{lt-ltb, le-ltb, ltb-true, ltb-false, eqb-true, eqb-false, eq-eqb, ne-eqb}
+use borrow.Author.Tests.{ltb-true, ltb-false, eqb-true, eqb-false, eq-eqb, ne-eqb}
 use Rattle.meaning.specs.Below.{some, every, sum, first, members, within}
-use Rattle.meaning.proofs.Bool.{either, not-both, and-left, and-right, and-true, or-false, or-false-left, or-false-right, or-true-left, or-true-right, or-cases}
+use Rattle.meaning.proofs.Bool.{either, not-both, and-left, and-right, and-true, or-false, or-true-left, or-true-right, or-cases}
 
 -- Below n + 1 is below n or n itself.
 pub last : {k n : ℕ} → k < suc n → (k ≡ n) ⊎ (k < n)

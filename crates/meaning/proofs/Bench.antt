@@ -1,6 +1,6 @@
 -- The nets that the page marks P come out as it says: each case is computed by the definitions themselves.
-use mathlib.Core.Path.{_≡_, refl, sym, ap₂, _∙_}
-use mathlib.Core.Bool.{Bool, true, _&&_}
+use mathlib.Core.Path.{_≡_, refl}
+use mathlib.Core.Bool.{true}
 use mathlib.Core.List.{List, [], _∷_, _++_}
 use Rattle.meaning.specs.Below.{some, every, sum, first, members, within}
 use Rattle.meaning.specs.Bytes.{number, bytes, bit, bits, cut}

@@ -8,7 +8,7 @@ use native.Mathlib.Omega.{arith}
 use lib.Dec.{ltb}
 use borrow.Author.Tests.{lt-ltb, le-ltb, ltb-true, ltb-false}
 use Rattle.meaning.specs.Below.{first}
-use Rattle.meaning.specs.Answer.{Answer, Check, decide}
+use Rattle.meaning.specs.Answer.{Answer, accepted, refused, Check, decide}
 use Rattle.meaning.proofs.Below.{first-passes, first-before, first-is, first-none}
 
 -- Every check of a list.
@@ -80,3 +80,18 @@ accepted-clean (c ∷ cs) ok r e =
     let zero-here : c .answer (f .0) .number ≡ 0 = ap (λ (a : Answer). a .number) (sym (decide-first c cs ok (f .0) (f .1))) ∙ e in
     absurd (omega (arith, r .0 (f .0) (f .1 .0) (f .1 .1) .0)))
     (search-all c)
+
+-- What checks that refuse decide is the acceptance, or a refusal before any cycle.
+abbrev pub Form : Answer → Type 0
+Form a = (a ≡ accepted 0) ⊎ ((n : ℕ) × (w : ℕ) × (0 < n) × (a ≡ refused n w))
+
+pub decide-form : (cs : List Check) → All Refuses cs → Form (decide cs (accepted 0))
+unfolding decide
+decide-form [] a = inl refl
+decide-form (c ∷ cs) a =
+    ⊎-elim (λ (h : Clean c). rw (decide-pass c cs (accepted 0) h) (decide-form cs (a .1)))
+    (λ (f : (k : ℕ) × Found c k). rw (decide-first c cs (accepted 0) (f .0) (f .1)) (refusal (c .answer (f .0)) (a .0 (f .0) (f .1 .0) (f .1 .1))))
+    (search-all c)
+  where
+    refusal : (b : Answer) → (0 < b .number) × (b .cycles ≡ 0) → Form b
+    refusal b h = inr (b .number, b .at, h .0, λ i. record { number = b .number; at = b .at; cycles = h .1 i })

@@ -1,17 +1,17 @@
 -- Demand 3: the start marking pays for all withdrawals together, and firing one by one in any order finds what it takes and ends in the one
 -- marking that the cycle reports.
-use mathlib.Core.Bool.{Bool, true, false, cond, _&&_}
+use mathlib.Core.Bool.{_&&_}
 use mathlib.Core.List.{List}
-use mathlib.Core.Path.{_≡_, refl, sym, _∙_}
-use Prim.Native.Nat.{ℕ, _+_, _-_, _≤_, _<_}
+use mathlib.Core.Path.{_≡_}
+use Prim.Native.Nat.{ℕ, _≤_, _<_}
 use native.Mathlib.Nat.{le-trans}
 use native.Mathlib.Omega.{arith}
 use lib.Dec.{eqb}
-use Rattle.meaning.specs.Below.{sum, members, within}
+use Rattle.meaning.specs.Below.{within}
 use Rattle.meaning.specs.Table.{Table, total, basic, post, ceiling}
 use Rattle.meaning.specs.Priority.{above}
 use Rattle.meaning.specs.Image.{State, state, image, image-bytes}
-use Rattle.meaning.specs.Cycle.{firable, withdrawn, added, rule, rounds, fired, marked, falling, rising, cycle}
+use Rattle.meaning.specs.Cycle.{withdrawn, added, rounds, fired, marked, falling, rising, cycle}
 use Rattle.meaning.specs.Orders.{takes, puts, One-by-one, Order}
 use Rattle.meaning.specs.Steps.{Stays}
 use Rattle.meaning.proofs.Bool.{and-left, and-right, and-true}

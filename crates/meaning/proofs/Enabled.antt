@@ -1,15 +1,14 @@
 -- What an enabled transition's arcs have found: an arc of the transition that is not met would stop it.
-use mathlib.Core.Bool.{Bool, true, false, cond, not, _&&_, _||_}
-use mathlib.Core.Path.{_≡_, refl, sym, ap, _∙_}
-use mathlib.Core.Logic.{_⊎_, inl, inr, ⊎-elim}
+use mathlib.Core.Bool.{true, false, not}
+use mathlib.Core.Path.{_≡_, sym, _∙_}
 use Prim.Native.Nat.{ℕ, _≤_, _<_}
 use lib.Dec.{ltb, eqb}
 use borrow.Author.Tests.{ltb-true, ltb-false, eq-eqb, eqb-true, not-true, not-false}
 use Rattle.meaning.specs.Below.{some}
-use Rattle.meaning.specs.Table.{Table, is, arc, basic, test, inhibitor, post}
+use Rattle.meaning.specs.Table.{Table, is, arc, basic, test, inhibitor}
 use Rattle.meaning.specs.Cycle.{stops, enabled}
 use Rattle.meaning.proofs.Bool.{and-left, and-right}
-use Rattle.meaning.proofs.Below.{none-elim, none-intro}
+use Rattle.meaning.proofs.Below.{none-elim}
 
 -- An arc of a sort has kind 3 and that sort.
 pub arc-is : (tb : Table) (s r : ℕ) → arc tb s r ≡ true → (tb .kind r ≡ 3) × (tb .sort r ≡ s)

@@ -1,20 +1,19 @@
 -- An image that fits, after a cycle that is not refused, fits again: each counter stays at most as high as its sort allows, and a place that
 -- no record declares has no arc to fill it.
 use mathlib.Core.Bool.{Bool, true, false, cond, not, _&&_, _||_, and-false}
-use mathlib.Core.List.{List, [], _∷_}
+use mathlib.Core.List.{List}
 use mathlib.Core.Logic.{_⊎_, inl, inr, ⊎-elim}
-use mathlib.Core.Path.{_≡_, refl, sym, ap, _∙_, subst}
-use Prim.Native.Nat.{ℕ, zero, suc, _+_, _*_, _-_, _≤_, _<_}
+use mathlib.Core.Path.{_≡_, refl, sym, ap, _∙_}
+use Prim.Native.Nat.{ℕ, zero, suc, _+_, _-_, _≤_, _<_}
 use native.Mathlib.Nat.{le-trans}
 use native.Mathlib.Omega.{arith}
 use lib.Dec.{ltb, leb, eqb}
-use lib.ListN.{getD}
-use borrow.Author.Tests.{ltb-true, ltb-false, le-ltb, lt-ltb, leb-true, eqb-true, eqb-false, eq-eqb, ne-eqb, not-true, not-false}
-use Rattle.meaning.specs.Below.{sum, within}
-use Rattle.meaning.specs.Table.{Table, total, place, timing, a-of, b-of, basic, post}
+use borrow.Author.Tests.{ltb-true, ltb-false, le-ltb, lt-ltb, leb-true, eqb-true}
+use Rattle.meaning.specs.Below.{within}
+use Rattle.meaning.specs.Table.{Table, total, place, timing, a-of, b-of, post}
 use Rattle.meaning.specs.Image.{Image, image, State, state, image-bytes, most, most-order, wrong, wrong-place, wrong-transition}
-use Rattle.meaning.specs.Cycle.{enabled, risen, counted, falling, withdrawn, added, marked, reset, rising, cycle, starved}
-use Rattle.meaning.proofs.Bool.{either, not-both, or-false, or-false-left, or-false-right, and-left, and-right}
+use Rattle.meaning.specs.Cycle.{enabled, risen, counted, falling, withdrawn, added, marked, reset, rising, cycle}
+use Rattle.meaning.proofs.Bool.{either, not-both, or-false-left, or-false-right, and-left, and-right}
 use Rattle.meaning.proofs.Below.{sum-zero}
 use Rattle.meaning.proofs.Image.{place-number, place-third, place-fourth, transition-number, transition-third, transition-fourth}
 use Rattle.meaning.proofs.Enabled.{arc-is}

@@ -1,14 +1,14 @@
 -- The state read from the bytes of a state is that state, as far as its numbers fit two bytes.
 use mathlib.Core.Bool.{Bool, true, false, cond}
-use mathlib.Core.List.{List, [], _∷_, _++_, append-nil}
+use mathlib.Core.List.{List, [], _++_, append-nil}
 use mathlib.Core.Path.{_≡_, refl, sym, ap, ap₂, _∙_}
-use Prim.Native.Nat.{ℕ, _+_, _*_, _/_, _%_, _≤_, _<_}
+use Prim.Native.Nat.{ℕ, _+_, _*_, _≤_, _<_}
 use native.Mathlib.Omega.{arith}
 use lib.Dec.{eqb}
 use lib.ListN.{length, getD, length-append}
 use lib.Seq.{getD-append-add}
 use Rattle.meaning.specs.Bytes.{bytes, cut}
-use Rattle.meaning.specs.Image.{Image, image, State, state, join, place-record, transition-record, image-bytes}
+use Rattle.meaning.specs.Image.{image, State, state, join, place-record, transition-record, image-bytes}
 use Rattle.meaning.proofs.Bytes.{cut-read, join-length, join-read, two-bytes}
 
 -- Each record of an image has four bytes.

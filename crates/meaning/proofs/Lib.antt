@@ -21,6 +21,7 @@ pub mod Answers
 -- one cycle over an accepted table
 pub mod Well
 pub mod Enabled
+pub mod Accepted
 pub mod Fired
 pub mod Pays
 pub mod Sequence
@@ -31,3 +32,4 @@ pub mod Run
 pub mod Words
 pub mod Outcomes
 pub mod Demand3
+pub mod Demands

@@ -7,17 +7,17 @@ use Prim.Native.Nat.{ℕ, zero, suc, _+_, _-_, _≤_, _<_}
 use native.Mathlib.Nat.{not-suc-le-zero, lt-irrefl}
 use native.Mathlib.Omega.{arith}
 use lib.Dec.{ltb, eqb}
-use borrow.Author.Tests.{eqb-true, eqb-false, eq-eqb, ne-eqb, not-true, lt-ltb, le-ltb, ltb-true, ltb-false}
-use Rattle.meaning.specs.Below.{some, every, sum}
+use borrow.Author.Tests.{eqb-true, eqb-false, eq-eqb, ne-eqb, not-true, ltb-true, ltb-false}
+use Rattle.meaning.specs.Below.{some}
 use Rattle.meaning.specs.Bytes.{bit}
-use Rattle.meaning.specs.Table.{Table, total, is, arc, basic, test, inhibitor, post, transition}
+use Rattle.meaning.specs.Table.{Table, total, is, basic, test, inhibitor, transition}
 use Rattle.meaning.specs.Priority.{above}
 use Rattle.meaning.specs.Defined.{some-two, conflict, complementary, inhibited, settled}
 use Rattle.meaning.specs.Image.{State}
-use Rattle.meaning.specs.Cycle.{enabled, as-wanted, in-time, firable, withdrawn, residual, rule}
+use Rattle.meaning.specs.Cycle.{enabled, as-wanted, firable, withdrawn, residual, rule}
 use Rattle.meaning.specs.Orders.{Meets}
-use Rattle.meaning.proofs.Bool.{either, not-both, and-left, and-right, and-true, or-cases, or-true-left, or-true-right}
-use Rattle.meaning.proofs.Below.{some-elim, some-intro, every-elim, sum-zero, sum-mono, sum-but-one, last}
+use Rattle.meaning.proofs.Bool.{either, not-both, and-left, and-right, and-true, or-cases}
+use Rattle.meaning.proofs.Below.{some-elim, some-intro, every-elim, sum-zero, sum-but-one, last}
 use Rattle.meaning.proofs.Well.{Well}
 use Rattle.meaning.proofs.Enabled.{arc-is, finds-basic, finds-test, finds-inhibitor}
 

@@ -1,11 +1,10 @@
 -- The tests behind answers 5 to 9 decide what their rows say: each asks whether records with such columns are there, and so does its row.
-use mathlib.Core.Bool.{Bool, true, not, _&&_}
+use mathlib.Core.Bool.{Bool, not, _&&_}
 use mathlib.Core.Path.{_≡_, refl, sym, _∙_}
-use mathlib.Core.Logic.{_↔_, _≢_, _⊎_, inl, inr, ⊎-elim}
+use mathlib.Core.Logic.{_≢_, _⊎_, inl, inr, ⊎-elim}
 use Prim.Native.Nat.{ℕ, _≤_, _<_}
 use native.Mathlib.Omega.{arith}
 use Rattle.meaning.specs.Table.{Table, place, transition, is}
-use Rattle.meaning.specs.Priority.{above}
 use Rattle.meaning.specs.Defined.{names-place, names-transition, names-second, unknown, empty, arc-at-place, arc-at-transition, some-two, conflict, complementary, inhibited, settled, unsettled}
 use Rattle.meaning.specs.Says.{Place, Transition, Arc, Wanted, Names-unknown, Above, Conflict, Settled}
 use Rattle.meaning.proofs.Closure.{closed}

@@ -3,13 +3,12 @@
 use mathlib.Core.Bool.{Bool, true, false, cond, _&&_, _||_, or-false as or-false-law}
 use mathlib.Core.List.{List, [], _∷_, _++_}
 use mathlib.Core.Path.{_≡_, refl, sym, ap, _∙_}
-use Prim.Native.Nat.{ℕ, zero, suc, _+_, _-_, _≤_, _<_}
+use Prim.Native.Nat.{ℕ, zero, suc, _+_, _-_, _≤_}
 use native.Mathlib.Omega.{arith}
 use lib.Dec.{eqb}
-use borrow.Author.Tests.{eqb-true, eqb-false}
-use Rattle.meaning.specs.Below.{sum, members, within}
-use Rattle.meaning.specs.Table.{Table, total, basic, post}
-use Rattle.meaning.specs.Cycle.{withdrawn, added, marked}
+use borrow.Author.Tests.{eqb-true}
+use Rattle.meaning.specs.Below.{members, within}
+use Rattle.meaning.specs.Table.{Table, total}
 use Rattle.meaning.specs.Orders.{takes, puts, One-by-one, Order}
 use Rattle.meaning.proofs.Bool.{not-both}
 use Rattle.meaning.proofs.Below.{sum-same, sum-add, sum-zero, within-append, within-out}

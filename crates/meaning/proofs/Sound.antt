@@ -105,7 +105,7 @@ check-sound bs e = clean-sound bs (accepted-clean (table-checks bs) (accepted 0)
 
 module _ (tb : Table) (sound : Sound-table tb) where
   -- Two records that say the same thing are one.
-  same-record : (s r : ℕ) → s < tb .records → r < tb .records → Same tb s r → Same tb r s → s ≡ r
+  pub same-record : (s r : ℕ) → s < tb .records → r < tb .records → Same tb s r → Same tb r s → s ≡ r
   same-record s r l m q p =
       elim (compared s r) [
         | inl k ↦ absurd (twice-said s r k l m q)

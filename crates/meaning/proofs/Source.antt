@@ -1,21 +1,21 @@
 -- Stopping a sort 2 counter at a changes no firability: the stopped counter is the lesser of the source's and a, and firability asks only
 -- whether it has reached a.
 use mathlib.Core.Bool.{Bool, true, false, cond, not, _&&_, _||_}
-use mathlib.Core.List.{List, [], _∷_}
-use mathlib.Core.Logic.{_⊎_, inl, inr, ⊎-elim}
-use mathlib.Core.Path.{_≡_, refl, sym, ap, ap₂, _∙_}
+use mathlib.Core.List.{List}
+use mathlib.Core.Logic.{⊎-elim}
+use mathlib.Core.Path.{_≡_, refl, sym, ap, _∙_}
 use Prim.Native.Nat.{ℕ, zero, suc, _-_, min, _≤_, _<_}
 use native.Mathlib.Omega.{arith}
 use lib.Dec.{ltb, leb, eqb}
-use borrow.Author.Tests.{ltb-true, ltb-false, leb-true, leb-false, le-leb, lt-leb, eqb-true}
-use Rattle.meaning.specs.Below.{some, members, within}
-use Rattle.meaning.specs.Table.{Table, is, arc, basic, test, transition, timing, a-of, b-of, ceiling}
+use borrow.Author.Tests.{ltb-true, ltb-false, leb-true, leb-false, le-leb, lt-leb}
+use Rattle.meaning.specs.Below.{members, within}
+use Rattle.meaning.specs.Table.{Table, basic, test, transition, timing, a-of, ceiling}
 use Rattle.meaning.specs.Priority.{above}
 use Rattle.meaning.specs.Image.{State, state, image, image-bytes, most}
-use Rattle.meaning.specs.Cycle.{enabled, risen, counted, falling, as-wanted, in-time, firable, withdrawn, residual, rule, rounds, fired, marked, starved, reset, rising, cycle}
+use Rattle.meaning.specs.Cycle.{enabled, risen, counted, falling, in-time, firable, withdrawn, residual, rule, rounds, fired, marked, starved, reset, rising, cycle}
 use Rattle.meaning.specs.Steps.{Steps, Stays}
 use Rattle.meaning.specs.Source.{source-counted, source-falling, source-cycle, source-run, stopped-at-a, Follows}
-use Rattle.meaning.proofs.Bool.{either, and-left, and-right, or-cases}
+use Rattle.meaning.proofs.Bool.{either, and-left, or-cases}
 use Rattle.meaning.proofs.Below.{some-same, members-same}
 use Rattle.meaning.proofs.Well.{Well}
 use Rattle.meaning.proofs.Enabled.{arc-is}

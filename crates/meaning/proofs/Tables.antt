@@ -2,7 +2,7 @@
 use mathlib.Core.Bool.{Bool, true, false, not, _&&_}
 use mathlib.Core.List.{List, [], _∷_}
 use mathlib.Core.Path.{_≡_, refl, sym, _∙_, subst}
-use mathlib.Core.Logic.{_↔_, _⊎_, inl, inr, ⊎-elim}
+use mathlib.Core.Logic.{_⊎_, inl, inr, ⊎-elim}
 use Prim.Native.Nat.{ℕ, zero, suc, _+_, _*_, _-_, _%_, _≤_, _<_}
 use native.Mathlib.Nat.{le-refl, eq-or-lt-of-le}
 use native.Mathlib.Omega.{arith}
@@ -11,7 +11,6 @@ use lib.ListN.{length}
 use borrow.Author.Tests.{lt-ltb, le-ltb, ltb-true, ltb-false}
 use Rattle.meaning.specs.Below.{some, first}
 use Rattle.meaning.specs.Table.{Table, table, place, transition}
-use Rattle.meaning.specs.Priority.{above}
 use Rattle.meaning.specs.Answer.{refused, Check, check-of}
 use Rattle.meaning.specs.Defined.{bad-length, fault, unknown, empty, isolated, circle, arc-at-place, arc-at-transition, unsettled, clashes, table-checks}
 use Rattle.meaning.specs.Says.{Place, Transition, Arc, Names-unknown, Above, Conflict, Settled, Table-says, stage}

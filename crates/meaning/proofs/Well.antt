@@ -1,6 +1,6 @@
 -- What the laws of a cycle use of an accepted table, as facts about its records. `accepted-well` (Accepted.antt) shows that every accepted
 -- table has them.
-use mathlib.Core.Bool.{Bool, true, false}
+use mathlib.Core.Bool.{true, false}
 use mathlib.Core.Logic.{_≢_}
 use mathlib.Core.Path.{_≡_}
 use Prim.Native.Nat.{ℕ, _≤_, _<_}

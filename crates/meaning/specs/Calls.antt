@@ -1,7 +1,7 @@
 -- Document 01, "What the station hands over" and "Answer numbers and their order": what check, start, run and lookup leave behind.
-use mathlib.Core.Bool.{Bool, cond, not, _&&_, _||_}
+use mathlib.Core.Bool.{cond, not, _&&_, _||_}
 use mathlib.Core.List.{List, [], _∷_, _++_}
-use Prim.Native.Nat.{ℕ, zero, suc, _+_, _*_, _-_, _/_, _%_}
+use Prim.Native.Nat.{ℕ, zero, suc, _*_, _-_, _/_, _%_}
 use lib.Dec.{ltb, leb, eqb}
 use lib.ListN.{length, take, drop}
 use Rattle.meaning.specs.Below.{first}
@@ -10,7 +10,7 @@ use Rattle.meaning.specs.Table.{Table, table}
 use Rattle.meaning.specs.Answer.{Answer, accepted, refused, Check, check-of, decide}
 use Rattle.meaning.specs.Defined.{table-checks}
 use Rattle.meaning.specs.Image.{image-bytes, fresh, state-checks}
-use Rattle.meaning.specs.Cycle.{Cycle, cycle, overfull}
+use Rattle.meaning.specs.Cycle.{cycle, overfull}
 
 -- START
 

@@ -1,10 +1,9 @@
 -- Document 01, "One cycle": a falling edge, then a rising edge (source document 001, definitions 4 to 7; rules 1 to 9 are those of definition 7).
-use mathlib.Core.Bool.{Bool, true, false, cond, not, _&&_, _||_, Bool·beq}
-use mathlib.Core.List.{List, [], _∷_, _++_}
+use mathlib.Core.Bool.{Bool, cond, not, _&&_, _||_, Bool·beq}
+use mathlib.Core.List.{List, [], _++_}
 use Prim.Native.Nat.{ℕ, zero, suc, _+_, _-_}
 use lib.Dec.{ltb, leb, eqb}
-use lib.ListN.{getD}
-use Rattle.meaning.specs.Below.{some, every, first, members, within}
+use Rattle.meaning.specs.Below.{some, every, members, within}
 use Rattle.meaning.specs.Bytes.{bytes, bit, bits}
 use Rattle.meaning.specs.Table.{Table, total, is, basic, test, inhibitor, post, transition, timing, a-of, b-of, ceiling}
 use Rattle.meaning.specs.Priority.{above}

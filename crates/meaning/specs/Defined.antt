@@ -1,11 +1,11 @@
 -- Document 01, "When a table is well defined" and answers 1 to 9, in the page's order (source document 001, definitions 10 to 14).
-use mathlib.Core.Bool.{Bool, true, false, cond, not, _&&_, _||_, Bool·beq}
-use mathlib.Core.List.{List, [], _∷_, _++_}
-use Prim.Native.Nat.{ℕ, _+_, _*_, _-_, _/_, _%_}
+use mathlib.Core.Bool.{Bool, false, cond, not, _&&_, _||_, Bool·beq}
+use mathlib.Core.List.{List, [], _∷_}
+use Prim.Native.Nat.{ℕ, _+_, _*_, _-_, _%_}
 use lib.Dec.{ltb, leb, eqb}
 use lib.ListN.{length, getD}
 use Rattle.meaning.specs.Below.{some, first}
-use Rattle.meaning.specs.Table.{Table, table, rowOf, is, arc, basic, test, inhibitor, post, place, transition}
+use Rattle.meaning.specs.Table.{Table, table, rowOf, is, basic, test, inhibitor, post, place, transition}
 use Rattle.meaning.specs.Answer.{Answer, refused, accepted, Check, check-of, decide}
 use Rattle.meaning.specs.Priority.{above}
 

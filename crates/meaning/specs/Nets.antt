@@ -1,14 +1,14 @@
 -- Document 01, "Nets on the bench": the nets marked P as one table of cases. Weights are 1 unless said.
 use mathlib.Core.Bool.{Bool, true, false, cond, _&&_}
 use mathlib.Core.List.{List, [], _∷_, _++_}
-use Prim.Native.Nat.{ℕ, zero, suc, _+_, _*_}
+use Prim.Native.Nat.{ℕ, zero, suc, _*_}
 use lib.Dec.{eqb}
 use lib.ListN.{length, replicate, take, drop}
 use Rattle.meaning.specs.Bytes.{number, bytes}
 use Rattle.meaning.specs.Table.{Table, table}
 use Rattle.meaning.specs.Image.{image-bytes}
 use Rattle.meaning.specs.Cycle.{cycle}
-use Rattle.meaning.specs.Calls.{Start, start, Run, run}
+use Rattle.meaning.specs.Calls.{start, run}
 
 -- A record: kind, byte 1, byte 2, sort, bytes 4-5, bytes 6-7.
 abbrev rec : ℕ → ℕ → ℕ → ℕ → ℕ → ℕ → List ℕ

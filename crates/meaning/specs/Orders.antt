@@ -1,12 +1,13 @@
 -- Document 01, "One cycle" and demand 3, as statements: the sets that meet definition 6, and firing the members of a set one by one.
-use mathlib.Core.Bool.{Bool, true, false}
+use mathlib.Core.Bool.{Bool}
 use mathlib.Core.List.{List, [], _∷_}
 use mathlib.Core.Path.{_≡_}
 use Prim.Native.Nat.{ℕ, _+_, _-_, _≤_}
 use lib.Dec.{eqb}
+use Rattle.meaning.specs.Below.{within}
 use Rattle.meaning.specs.Table.{Table}
-use Rattle.meaning.specs.Image.{State}
-use Rattle.meaning.specs.Cycle.{rule, firable, withdrawn, added}
+use Rattle.meaning.specs.Image.{State, state, image}
+use Rattle.meaning.specs.Cycle.{rule, firable, withdrawn, added, marked, cycle}
 
 -- The set F meets definition 6 at a state after its falling edge: exactly those are in it that are firable and enabled by M less the basic
 -- weights of the members of F above them.
@@ -33,3 +34,14 @@ pub data Order : List ℕ → List ℕ → Type 0 where
   keep : {x : ℕ} {xs ys : List ℕ} → Order xs ys → Order (x ∷ xs) (x ∷ ys)
   swap : {x y : ℕ} {xs : List ℕ} → Order (x ∷ y ∷ xs) (y ∷ x ∷ xs)
   again : {xs ys zs : List ℕ} → Order xs ys → Order ys zs → Order xs zs
+
+-- Demand 3 for one cycle, of the set that fires by definition 6 and the marking M at the start of the cycle.
+pub record Safe (tb : Table) (img : List ℕ) (word : ℕ) : Type 0 where
+  -- M pays for all withdrawals together, at every place.
+  pub pays : (p : ℕ) → withdrawn tb (within (cycle tb img word .fired)) p ≤ state (image img) .tokens p
+  -- In every order the members can be fired one by one: each finds the tokens that it takes.
+  pub finds : (order : List ℕ) → Order order (cycle tb img word .fired)
+      → (m′ : ℕ → ℕ) × One-by-one tb (state (image img) .tokens) order m′
+  -- However they are fired, they end in one marking.
+  pub ends : (order : List ℕ) (m′ : ℕ → ℕ) → Order order (cycle tb img word .fired) → One-by-one tb (state (image img) .tokens) order m′
+      → (p : ℕ) → m′ p ≡ marked tb (state (image img) .tokens) (within (cycle tb img word .fired)) p

@@ -1,6 +1,5 @@
 -- Document 01, run, as a relation: so many cycles of the definition are taken, and what they leave. Cycles done is the number of these steps.
 use mathlib.Core.List.{List, [], _∷_, _++_}
-use mathlib.Core.Path.{_≡_}
 use Prim.Native.Nat.{ℕ, suc, _≤_, _<_}
 use Rattle.meaning.specs.Table.{Table, ceiling}
 use Rattle.meaning.specs.Image.{image-bytes}

@@ -1,0 +1,188 @@
+-- The three demands, whole, for every table, image, list of words and report: each is put together from the laws of its part.
+use mathlib.Core.Bool.{Bool, _&&_}
+use mathlib.Core.List.{List, [], _∷_}
+use mathlib.Core.Logic.{_↔_, _⊎_, inl, inr, ⊎-elim}
+use mathlib.Core.Path.{_≡_, refl, sym, ap, _∙_}
+use Prim.Native.Nat.{ℕ, _≤_, _<_}
+use native.Mathlib.Omega.{arith}
+use lib.ListN.{length, take}
+use Rattle.meaning.specs.Below.{within}
+use Rattle.meaning.specs.Bytes.{number}
+use Rattle.meaning.specs.Table.{Table, table}
+use Rattle.meaning.specs.Priority.{above}
+use Rattle.meaning.specs.Answer.{Answer, accepted, refused}
+use Rattle.meaning.specs.Defined.{check}
+use Rattle.meaning.specs.Image.{State, state, image, image-bytes}
+use Rattle.meaning.specs.Cycle.{falling, firable, withdrawn, marked, cycle, fired}
+use Rattle.meaning.specs.Calls.{ran, run, trace, words-of}
+use Rattle.meaning.specs.Says.{Table-says, Run-says}
+use Rattle.meaning.specs.Orders.{Meets, Safe}
+use Rattle.meaning.specs.Source.{source-falling, source-run}
+use Rattle.meaning.specs.Steps.{Steps, Stays, Bursts}
+use Rattle.meaning.proofs.Answers.{run-stops, run-goes, run-form}
+use Rattle.meaning.proofs.Accepted.{accepted-well}
+use Rattle.meaning.proofs.Fired.{fired-meets, fired-only}
+use Rattle.meaning.proofs.Fits.{Fits}
+use Rattle.meaning.proofs.Demand3.{start-pays, residual-whole, any-order, marking-stands}
+use Rattle.meaning.proofs.Source.{stopping-changes-nothing}
+use Rattle.meaning.proofs.Sequence.{one-end}
+use Rattle.meaning.proofs.Run.{verdict, words, run-goes-on, run-refused-leaves, run-accepted-leaves, run-full-leaves, trace-finishes, trace-bursts, trace-number}
+
+-- DEMAND 1: every input has its answer, and a refusal leaves what it must.
+
+-- Answers 1 to 9 are numbers up to 9, and what run refuses before any cycle is at most 12.
+table-low : {bs : List ℕ} {n w : ℕ} → Table-says bs n w → n < 13
+table-low (Table-says.length-odd h) = omega arith
+table-low (Table-says.length-long h) = omega arith
+table-low (Table-says.kind l h) = omega arith
+table-low (Table-says.field l h) = omega arith
+table-low (Table-says.twice s l m h) = omega arith
+table-low (Table-says.unknown l h) = omega arith
+table-low (Table-says.no-place h) = omega arith
+table-low (Table-says.no-transition h) = omega arith
+table-low (Table-says.lone-place p h) = omega arith
+table-low (Table-says.lone-transition t p h) = omega arith
+table-low (Table-says.circle h) = omega arith
+table-low (Table-says.conflict i j l m c h) = omega arith
+
+says-low : {bs img ws report : List ℕ} {n w : ℕ} → Run-says bs img ws report n w → n < 13
+says-low (Run-says.of-table s) = table-low s
+says-low (Run-says.image-length h) = omega arith
+says-low (Run-says.image-place e l h) = omega arith
+says-low (Run-says.image-transition t e l h) = omega arith
+says-low (Run-says.words-odd h) = omega arith
+says-low (Run-says.words-long h) = omega arith
+says-low (Run-says.room h) = omega arith
+
+module _ (bs img ws report : List ℕ) where
+  -- What run's checks decide is the acceptance or a number from 1 to 12.
+  verdict-form : (verdict bs img ws report ≡ accepted 0)
+      ⊎ ((n : ℕ) × (w : ℕ) × (0 < n) × (n < 13) × (verdict bs img ws report ≡ refused n w))
+  verdict-form =
+      ⊎-elim inl
+      (λ x. inr (x .0, x .1, x .2, says-low (run-stops bs img ws report (x .0) (x .1) (x .2) .0 (x .3) .0), x .3))
+      (run-form bs img ws report)
+
+  -- Run goes on to its cycles where it answers 0 or 13.
+  went : (run bs img ws report .answer .number ≡ 0) ⊎ (run bs img ws report .answer .number ≡ 13) → verdict bs img ws report ≡ accepted 0
+  went h = ⊎-elim (λ e. e) (λ x. absurd (clash x h)) verdict-form
+    where
+      clash : (n : ℕ) × (w : ℕ) × (0 < n) × (n < 13) × (verdict bs img ws report ≡ refused n w)
+          → (run bs img ws report .answer .number ≡ 0) ⊎ (run bs img ws report .answer .number ≡ 13) → ⊥
+      clash x h =
+          let named : verdict bs img ws report .number ≡ x .0 = ap (λ (a : Answer). a .number) (x .4) in
+          let same : run bs img ws report .answer .number ≡ x .0 =
+          ap (λ (a : Answer). a .number) (run-refused-leaves bs img ws report (λ z. omega arith) .2) ∙ named in
+          ⊎-elim (λ z. omega arith) (λ z. omega arith) h
+
+  -- A run that goes on answers 0 or 13.
+  ended : verdict bs img ws report .number ≡ 0 → (run bs img ws report .answer .number ≡ 0) ⊎ (run bs img ws report .answer .number ≡ 13)
+  ended z = rw (run-goes-on bs img ws report z) (trace-number (table bs) (words ws) img)
+
+  -- Refused by 1 to 12, every byte is as it was.
+  pub refused-leaves : (n w : ℕ) → 0 < n → n < 13 → run bs img ws report .answer ≡ refused n w
+      → (run bs img ws report .image ≡ img) × (run bs img ws report .report ≡ report)
+  refused-leaves n w p q e =
+      let left = run-refused-leaves bs img ws report (λ z. ⊎-elim (λ k. omega (arith, named)) (λ k. omega (arith, named)) (ended z)) in
+      (left .0, left .1)
+    where
+      named : run bs img ws report .answer .number ≡ n
+      named = ap (λ (a : Answer). a .number) e
+
+  goes : ((n w : ℕ) → ¬ Run-says bs img ws report n w) → run bs img ws report ≡ ran (trace (table bs) (words ws) img) report
+  goes none = run-goes-on bs img ws report (ap (λ (a : Answer). a .number) (run-goes bs img ws report .1 none))
+
+  -- Accepted after c cycles: exactly if nothing of 1 to 12 is said and all words' cycles are taken, c of them; image and report are theirs.
+  pub run-accepts : (c : ℕ)
+      → (run bs img ws report .answer ≡ accepted c)
+      ↔ (((n w : ℕ) → ¬ Run-says bs img ws report n w)
+      × ((img′ : List ℕ) × (bytes : List ℕ) × Steps (table bs) (words ws) img c [] img′ bytes))
+  run-accepts c = (to, from)
+    where
+      to : run bs img ws report .answer ≡ accepted c
+          → ((n w : ℕ) → ¬ Run-says bs img ws report n w)
+          × ((img′ : List ℕ) × (bytes : List ℕ) × Steps (table bs) (words ws) img c [] img′ bytes)
+      to e =
+          let zero-is = ap (λ (a : Answer). a .number) e in
+          let left = run-accepted-leaves bs img ws report zero-is in
+          let count : left .0 ≡ c = ap (λ (a : Answer). a .cycles) (sym (left .4 .0) ∙ e) in
+          (run-goes bs img ws report .0 (went (inl zero-is)), (left .1, left .2, rw count at (left .3)))
+
+      from : ((n w : ℕ) → ¬ Run-says bs img ws report n w)
+          × ((img′ : List ℕ) × (bytes : List ℕ) × Steps (table bs) (words ws) img c [] img′ bytes) → run bs img ws report .answer ≡ accepted c
+      from h = rw (goes (h .0), trace-finishes (table bs) (h .1 .2))
+
+  -- Refused by 13 after c cycles at place p: exactly if nothing of 1 to 12 is said, c cycles are taken, and the next would burst at p first.
+  pub run-bursts : (p c : ℕ)
+      → (run bs img ws report .answer ≡ record { number = 13; at = p; cycles = c })
+      ↔ (((n w : ℕ) → ¬ Run-says bs img ws report n w)
+      × ((word : ℕ) × (left : List ℕ) × (img′ : List ℕ) × (bytes : List ℕ)
+      × Steps (table bs) (words ws) img c (word ∷ left) img′ bytes × Bursts (table bs) img′ word p))
+  run-bursts p c = (to, from)
+    where
+      Burst : Type 0
+      Burst =
+          ((n w : ℕ) → ¬ Run-says bs img ws report n w)
+          × ((word : ℕ) × (left : List ℕ) × (img′ : List ℕ) × (bytes : List ℕ)
+          × Steps (table bs) (words ws) img c (word ∷ left) img′ bytes × Bursts (table bs) img′ word p)
+
+      to : run bs img ws report .answer ≡ record { number = 13; at = p; cycles = c } → Burst
+      to e =
+          let full = ap (λ (a : Answer). a .number) e in
+          let v = went (inr full) in
+          let left = run-full-leaves bs img ws report full (λ k. omega (arith, ap (λ (a : Answer). a .number) v)) in
+          let count : left .0 ≡ c = ap (λ (a : Answer). a .cycles) (sym (left .8 .0) ∙ e) in
+          let at-p : left .5 ≡ p = ap (λ (a : Answer). a .at) (sym (left .8 .0) ∙ e) in
+          (run-goes bs img ws report .0 v, (left .1, left .2, left .3, left .4, rw count at (left .6), rw at-p at (left .7)))
+
+      from : Burst → run bs img ws report .answer ≡ record { number = 13; at = p; cycles = c }
+      from h = rw (goes (h .0), trace-bursts (table bs) (h .1 .4) (h .1 .5))
+
+-- DEMAND 2: acceptance is well-definedness (check-refuses and check-accepts of Answers.antt), and each cycle's set is the one that meets
+-- definition 6.
+pub fires-by-definition-6 : (bs : List ℕ) → check bs ≡ accepted 0 → (s : State) (word : ℕ)
+    → Meets (table bs) s word (within (fired (table bs) s word))
+    × ((F : ℕ → Bool) → Meets (table bs) s word F → (t : ℕ) → F t ≡ within (fired (table bs) s word) t)
+fires-by-definition-6 bs e s word = (fired-meets (table bs) (accepted-well bs e) s word, fired-only (table bs) (accepted-well bs e) s word)
+
+-- DEMAND 3, for every accepted table, every image and every word.
+pub demand-3 : (bs : List ℕ) → check bs ≡ accepted 0 → (img : List ℕ) (word : ℕ) → Safe (table bs) img word
+unfolding cycle falling
+demand-3 bs e img word =
+    let well = accepted-well bs e in
+    let s = falling (table bs) (state (image img)) in
+    record {
+      pays = start-pays (table bs) well s word;
+      finds = λ order o. (any-order (table bs) well s word order o .0, any-order (table bs) well s word order o .1);
+      ends = λ order m′ o f p.
+          let known = any-order (table bs) well s word order o in
+          one-end f (known .1) p ∙ known .2 p;
+    }
+
+-- One word's cycle that is taken leaves the image after it.
+one-step : {tb : Table} {img img′ bytes : List ℕ} {n w : ℕ} → Steps tb (w ∷ []) img n [] img′ bytes
+    → Stays tb img w × (img′ ≡ image-bytes (cycle tb img w .after))
+one-step (Steps.more stays Steps.none) = (stays, refl)
+
+-- A call of run with one word that is accepted leaves that marking in the image.
+pub demand-3-reported : (bs img ws report : List ℕ) → length ws ≡ 8 → run bs img ws report .answer .number ≡ 0 → (p : ℕ) → p < 128
+    → state (image (run bs img ws report .image)) .tokens p
+    ≡ marked (table bs) (state (image img) .tokens) (within (cycle (table bs) img (number (take 8 ws)) .fired)) p
+unfolding words-of
+demand-3-reported bs img ws report e z p l =
+    let left = run-accepted-leaves bs img ws report z in
+    let steps : Steps (table bs) (number (take 8 ws) ∷ []) img (left .0) [] (left .1) (left .2) = rw e at (left .3) in
+    let after = one-step steps in
+    rw (left .4 .1, after .1) (marking-stands (table bs) img (number (take 8 ws)) (after .0) p l)
+
+-- What goes with demand 3: the residual marking of any transition is M less what is really there, so natural subtraction hides nothing.
+pub residual-never-below : (bs : List ℕ) → check bs ≡ accepted 0 → (s : State) (word t p : ℕ)
+    → withdrawn (table bs) (λ u. within (fired (table bs) s word) u && above (table bs) u t) p ≤ s .tokens p
+residual-never-below bs e = residual-whole (table bs) (accepted-well bs e)
+
+-- And with demand 2: over any run from an image that fits, the page's stopped counters and the source's make the same transitions firable.
+pub same-firable-as-the-source : (bs : List ℕ) → check bs ≡ accepted 0 → {ws img left img′ bytes : List ℕ} {n : ℕ}
+    → Fits (table bs) (image img) → Steps (table bs) ws img n left img′ bytes → (word t : ℕ)
+    → firable (table bs) (falling (table bs) (state (image img′))) word t
+    ≡ firable (table bs) (source-falling (table bs) (source-run (table bs) n ws (state (image img)))) word t
+same-firable-as-the-source bs e = stopping-changes-nothing (table bs) (accepted-well bs e)
