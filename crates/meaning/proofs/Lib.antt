@@ -1,5 +1,4 @@
--- The laws of the meaning. The worked nets come first, so that a wrong definition meets them first.
-pub mod Bench
+-- The laws of the meaning.
 -- finite questions and bytes
 pub mod Bool
 pub mod Below

@@ -14,3 +14,4 @@ pub mod Steps
 pub mod Promise
 pub mod Source
 pub mod Nets
+pub mod Bench

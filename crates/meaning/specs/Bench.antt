@@ -1,6 +1,6 @@
 -- The nets that the page marks P come out as it says: each case is computed by the definitions themselves.
 use mathlib.Core.Path.{_≡_, refl}
-use mathlib.Core.Bool.{true}
+use mathlib.Core.Bool.{Bool, true, false, _&&_}
 use mathlib.Core.List.{List, [], _∷_, _++_}
 use Rattle.meaning.specs.Below.{some, every, sum, first, members, within}
 use Rattle.meaning.specs.Bytes.{number, bytes, bit, bits, cut}
@@ -11,7 +11,6 @@ use Rattle.meaning.specs.Defined.{bad-length, bad-kind, interval, bad-fi
 use Rattle.meaning.specs.Image.{state, join, image, image-bytes, fresh, wrong-place, most, most-order, wrong-transition, wrong, state-checks}
 use Rattle.meaning.specs.Cycle.{stops, enabled, active, risen, counted, falling, as-wanted, in-time, firable, withdrawn, added, residual, rule, rounds, fired, marked, executed, starved, reset, rising, record-of, cycle, overfull}
 use Rattle.meaning.specs.Calls.{start-checks, start, words-of, word-checks, run-checks, trace, run}
-use Rattle.meaning.proofs.Bool.{and-left, and-right, and-true}
 use Rattle.meaning.specs.Nets.{N, N-unsettled, net7, net8, net6, alike, word-bytes, fired-sets, counts-of, passes, net5, net9, net10, nets-1-to-5, nets-6-to-10, all-pass, net11, net12, put-back, two-full, beside, Case, nets}
 
 -- The cases of nets 1 to 5, and of nets 6 to 10.
@@ -29,10 +28,14 @@ unfolding some every sum first members within number bytes bit bits cut kinds pl
 beside-pass = refl
 
 -- Two lists of cases pass together if each does.
+meet : (a b c : Bool) → (a && b) ≡ true → (b ≡ true → c ≡ true) → (a && c) ≡ true
+meet true b c p f = f p
+meet false b c p f = p
+
 both : (cs ds : List Case) → all-pass cs ≡ true → all-pass ds ≡ true → all-pass (cs ++ ds) ≡ true
 unfolding all-pass
 both [] ds p q = q
-both (c ∷ cs) ds p q = and-true (and-left (passes c) (all-pass cs) p) (both cs ds (and-right (passes c) (all-pass cs) p) q)
+both (c ∷ cs) ds p q = meet (passes c) (all-pass cs) (all-pass (cs ++ ds)) p (λ r. both cs ds r q)
 
 -- Every net that the page marks P passes.
 pub worked : all-pass nets ≡ true
