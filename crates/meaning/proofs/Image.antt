@@ -29,11 +29,11 @@ image-length s =
 
 module _ (s : State) where
   -- Byte i of a place's record, and of a transition's.
-  place-byte : (p i : ℕ) → p < 128 → i < 4 → getD (image-bytes s) (4 * p + i) 0 ≡ getD (place-record s p) i 0
+  pub place-byte : (p i : ℕ) → p < 128 → i < 4 → getD (image-bytes s) (4 * p + i) 0 ≡ getD (place-record s p) i 0
   unfolding image-bytes
   place-byte p i hp hi = join-read 4 (place-record s) (place-wide s) 128 p i (join 64 (transition-record s)) hp hi
 
-  transition-byte : (t i : ℕ) → t < 64 → i < 4 → getD (image-bytes s) (4 * (128 + t) + i) 0 ≡ getD (transition-record s t) i 0
+  pub transition-byte : (t i : ℕ) → t < 64 → i < 4 → getD (image-bytes s) (4 * (128 + t) + i) 0 ≡ getD (transition-record s t) i 0
   unfolding image-bytes
   transition-byte t i ht hi =
       let there : 4 * (128 + t) + i ≡ length (join 128 (place-record s)) + (4 * t + i) =

@@ -1,0 +1,270 @@
+-- From the rows to the meaning: a bit of a row is a record, and a cell is the one input arc of its place and transition, so what the rows say of two
+-- transitions is what the table says.
+use mathlib.Core.Bool.{Bool, true, false, cond, not, _&&_, _||_}
+use mathlib.Core.List.{List}
+use mathlib.Core.Logic.{⊎-elim}
+use mathlib.Core.Path.{_≡_, refl, sym, ap, _∙_}
+use Prim.Native.Nat.{ℕ, zero, suc, _≤_, _<_}
+use native.Mathlib.Nat.{not-suc-le-zero}
+use native.Mathlib.Omega.{arith}
+use lib.Dec.{ltb, eqb}
+use lib.ListN.{getD}
+use borrow.Author.Tests.{ltb-true, eqb-true, eqb-false, not-true, lt-ltb, eq-eqb, ne-eqb}
+use Rattle.meaning.specs.Below.{some}
+use Rattle.meaning.specs.Bytes.{bit}
+use Rattle.meaning.specs.Table.{Table, is, basic, test, inhibitor}
+use Rattle.meaning.specs.Defined.{some-two, conflict, complementary, inhibited}
+use Rattle.meaning.proofs.Bool.{either, not-both, and-left, and-right, and-true, or-true-left, or-true-right, or-cases, same-test}
+use Rattle.meaning.proofs.Below.{last, some-intro, some-elim, none-elim, some-same}
+use Rattle.meaning.proofs.Pays.{two-elim, two-intro}
+use Rattle.net.specs.Rows.{Gathered, Conflicts, Weights, Sorts, latest, input, cell, inhibits-by}
+
+-- Two tests behind a third are the same where they are the same when the third passes.
+behind : (a b c : Bool) → (a ≡ true → b ≡ c) → (a && b) ≡ (a && c)
+behind true b c f = f refl
+behind false b c f = refl
+
+-- The last two of three tests in the other order.
+swap : (a b c : Bool) → (a && b && c) ≡ (a && c && b)
+swap false b c = refl
+swap true true true = refl
+swap true true false = refl
+swap true false true = refl
+swap true false false = refl
+
+-- Four tests pass together, so each does.
+each : (a b c d : Bool) → (a && b && c && d) ≡ true → (a ≡ true) × (b ≡ true) × (c ≡ true) × (d ≡ true)
+each a b c d e =
+    let abc = and-left (a && b && c) d e in
+    let ab = and-left (a && b) c abc in
+    (and-left a b ab, and-right a b ab, and-right (a && b) c abc, and-right (a && b && c) d e)
+
+-- Each of four passes, so all do.
+all : {a b c d : Bool} → a ≡ true → b ≡ true → c ≡ true → d ≡ true → (a && b && c && d) ≡ true
+all p q r s = and-true (and-true (and-true p q) r) s
+
+-- Conflicts: who takes from a place is who has a basic arc from it.
+pub conflict-bit : (tb : Table) (takers rows : List ℕ) → Gathered tb 3 0 takers → Conflicts tb takers rows
+    → ((r : ℕ) → r < tb .records → tb .kind r ≡ 3 → (tb .one r < 128) × (tb .two r < 64)) → (i j : ℕ) → i < 64 → j < 64
+    → bit (getD rows i 0) j ≡ conflict tb i j
+unfolding conflict some-two
+conflict-bit tb takers rows g c arcs i j hi hj =
+    c .holds i j hi hj
+    ∙ some-same (tb .records) (λ r. basic tb r && eqb (tb .two r) i && bit (getD takers (tb .one r) 0) j)
+    (λ r. basic tb r && eqb (tb .two r) i && some (tb .records) (with r))
+    (λ r h. behind (basic tb r && eqb (tb .two r) i) (bit (getD takers (tb .one r) 0) j) (some (tb .records) (with r)) (λ e. taken r h e))
+  where
+    with : ℕ → ℕ → Bool
+    with r s = basic tb s && eqb (tb .two s) j && eqb (tb .one s) (tb .one r)
+
+    taken : (r : ℕ) → r < tb .records → (basic tb r && eqb (tb .two r) i) ≡ true → bit (getD takers (tb .one r) 0) j ≡ some (tb .records) (with r)
+    taken r h e =
+        let kind : tb .kind r ≡ 3 = eqb-true (tb .kind r) 3 (and-left (is tb 3 r) (eqb (tb .sort r) 0) (and-left (basic tb r) (eqb (tb .two r) i) e)) in
+        g .holds (tb .one r) j (arcs r h kind .0) hj
+        ∙ some-same (tb .records) (λ s. basic tb s && eqb (tb .one s) (tb .one r) && eqb (tb .two s) j) (with r)
+        (λ s l. swap (basic tb s) (eqb (tb .one s) (tb .one r)) (eqb (tb .two s) j))
+
+-- A record of a kind and sort, with bytes 1 and 2.
+abbrev Named : Table → ℕ → ℕ → ℕ → ℕ → ℕ → Type 0
+Named tb kind sort x y r = (r < tb .records) × (tb .kind r ≡ kind) × (tb .sort r ≡ sort) × (tb .one r ≡ x) × (tb .two r ≡ y)
+
+-- A bit of a gathered row is such a record.
+module _ (tb : Table) (kind sort : ℕ) (rows : List ℕ) (g : Gathered tb kind sort rows) (x y : ℕ) (hx : x < 128) (hy : y < 64) where
+  bit-record : bit (getD rows x 0) y ≡ true → (r : ℕ) × Named tb kind sort x y r
+  bit-record e =
+      let w = some-elim (tb .records) _ (sym (g .holds x y hx hy) ∙ e) in
+      let t = each (is tb kind (w .0)) (eqb (tb .sort (w .0)) sort) (eqb (tb .one (w .0)) x) (eqb (tb .two (w .0)) y) (w .2) in
+      (w .0, (w .1, eqb-true _ _ (t .0), eqb-true _ _ (t .1), eqb-true _ _ (t .2), eqb-true _ _ (t .3)))
+
+  -- Such a record is a bit of its row.
+  record-bit : (r : ℕ) → Named tb kind sort x y r → bit (getD rows x 0) y ≡ true
+  record-bit r n =
+      g .holds x y hx hy
+      ∙ some-intro (tb .records) _ r (n .0) (all (eq-eqb _ _ (n .1)) (eq-eqb _ _ (n .2)) (eq-eqb _ _ (n .3)) (eq-eqb _ _ (n .4)))
+
+-- What sort 0 and sort 1 say of two transitions, either way round: i has a condition of sort a, and j has it with sort b.
+module _ (tb : Table) (a b : ℕ) (apart : ¬ (b ≡ a)) (rows others : List ℕ) (ga : Gathered tb 4 a rows) (gb : Gathered tb 4 b others) (i j : ℕ)
+    (hi : i < 64) (hj : j < 64) where
+  -- A condition in both rows makes the two complementary.
+  both-rows : some 64 (λ k. bit (getD rows i 0) k && bit (getD others j 0) k) ≡ true → complementary tb i j ≡ true
+  unfolding complementary
+  both-rows e =
+      let w = some-elim 64 (λ k. bit (getD rows i 0) k && bit (getD others j 0) k) e in
+      let k = w .0 in
+      let r = bit-record tb 4 a rows ga i k (omega arith) (w .1) (and-left (bit (getD rows i 0) k) (bit (getD others j 0) k) (w .2)) in
+      let s = bit-record tb 4 b others gb j k (omega arith) (w .1) (and-right (bit (getD rows i 0) k) (bit (getD others j 0) k) (w .2)) in
+      two-intro (tb .records) _ _ (r .0) (s .0) (r .1 .0) (s .1 .0) (and-true (eq-eqb _ _ (r .1 .1)) (eq-eqb _ _ (r .1 .3)))
+      (all (eq-eqb _ _ (s .1 .1)) (eq-eqb _ _ (s .1 .3)) (eq-eqb _ _ (s .1 .4 ∙ sym (r .1 .4)))
+      (ap not (ne-eqb (tb .sort (s .0)) (tb .sort (r .0)) (λ q. apart (sym (s .1 .2) ∙ q ∙ r .1 .2)))))
+
+  -- Two records of one condition put it into both rows.
+  in-both : (r s : ℕ) → tb .two r < 64 → Named tb 4 a i (tb .two r) r → Named tb 4 b j (tb .two r) s
+      → some 64 (λ k. bit (getD rows i 0) k && bit (getD others j 0) k) ≡ true
+  in-both r s l nr ns =
+      some-intro 64 (λ k. bit (getD rows i 0) k && bit (getD others j 0) k) (tb .two r) l
+      (and-true (record-bit tb 4 a rows ga i (tb .two r) (omega arith) l r nr) (record-bit tb 4 b others gb j (tb .two r) (omega arith) l s ns))
+
+-- Complementary conditions: one wanted true by i and false by j, or the other way round.
+pub complementary-bits : (tb : Table) (truths falses : List ℕ) → Gathered tb 4 0 truths → Gathered tb 4 1 falses
+    → ((r : ℕ) → r < tb .records → tb .kind r ≡ 4 → (tb .one r < 64) × (tb .two r < 64) × (tb .sort r ≤ 1)) → (i j : ℕ) → i < 64 → j < 64
+    → (some 64 (λ k. bit (getD truths i 0) k && bit (getD falses j 0) k)
+    || some 64 (λ k. bit (getD falses i 0) k && bit (getD truths j 0) k))
+    ≡ complementary tb i j
+unfolding complementary
+complementary-bits tb truths falses gt gf conditions i j hi hj =
+    same-test _ (complementary tb i j)
+    (λ e.
+    ⊎-elim (λ q. both-rows tb 0 1 (λ z. omega arith) truths falses gt gf i j hi hj q)
+    (λ q. both-rows tb 1 0 (λ z. omega arith) falses truths gf gt i j hi hj q)
+    (or-cases true-false false-true e))
+    (λ e.
+    let w = two-elim (tb .records) _ _ e in
+    let t = each (is tb 4 (w .1)) (eqb (tb .one (w .1)) j) (eqb (tb .two (w .1)) (tb .two (w .0))) (not (eqb (tb .sort (w .1)) (tb .sort (w .0)))) (w .5) in
+    found (w .0) (w .1) (w .2) (w .3) (eqb-true _ _ (and-left (is tb 4 (w .0)) (eqb (tb .one (w .0)) i) (w .4)))
+    (eqb-true _ _ (and-right (is tb 4 (w .0)) (eqb (tb .one (w .0)) i) (w .4))) (eqb-true _ _ (t .0)) (eqb-true _ _ (t .1)) (eqb-true _ _ (t .2))
+    (eqb-false _ _ (not-true (eqb (tb .sort (w .1)) (tb .sort (w .0))) (t .3))))
+  where
+    true-false : Bool
+    true-false = some 64 (λ k. bit (getD truths i 0) k && bit (getD falses j 0) k)
+
+    false-true : Bool
+    false-true = some 64 (λ k. bit (getD falses i 0) k && bit (getD truths j 0) k)
+
+    found : (r s : ℕ) → r < tb .records → s < tb .records → tb .kind r ≡ 4 → tb .one r ≡ i → tb .kind s ≡ 4 → tb .one s ≡ j
+        → tb .two s ≡ tb .two r → ¬ (tb .sort s ≡ tb .sort r) → (true-false || false-true) ≡ true
+    found r s hr hs kr or ks os same apart =
+        let cr = conditions r hr kr in
+        let cs = conditions s hs ks in
+        ⊎-elim
+        (λ (e : eqb (tb .sort r) 0 ≡ true).
+        let z : tb .sort r ≡ 0 = eqb-true (tb .sort r) 0 e in
+        or-true-left false-true
+        (in-both tb 0 1 (λ q. omega arith) truths falses gt gf i j hi hj r s (cr .1) (hr, kr, z, or, refl) (hs, ks, omega arith, os, same)))
+        (λ (e : eqb (tb .sort r) 0 ≡ false).
+        let z : ¬ (tb .sort r ≡ 0) = eqb-false (tb .sort r) 0 e in
+        or-true-right true-false
+        (in-both tb 1 0 (λ q. omega arith) falses truths gf gt i j hi hj r s (cr .1) (hr, kr, omega arith, or, refl) (hs, ks, omega arith, os, same)))
+        (either (eqb (tb .sort r) 0))
+
+-- Where one record alone passes, it is the last that does.
+pub latest-is : (n : ℕ) (p : ℕ → Bool) (f : ℕ → ℕ) (r : ℕ) → r < n → p r ≡ true → ((s : ℕ) → s < n → p s ≡ true → s ≡ r) → latest n p f ≡ f r
+unfolding latest
+latest-is zero p f r h e single = absurd (not-suc-le-zero h)
+latest-is (suc n) p f r h e single = go (λ l. latest-is n p f r l e (λ s hs es. single s (omega arith) es)) (p n) refl
+  where
+    go : (r < n → latest n p f ≡ f r) → (b : Bool) → p n ≡ b → cond b (f n) (latest n p f) ≡ f r
+    go below true q = ap f (single n (omega arith) q)
+    go below false q = ⊎-elim (λ (z : r ≡ n). not-both e (ap p z ∙ q)) below (last h)
+
+-- Where no record passes it is 0.
+pub latest-none : (n : ℕ) (p : ℕ → Bool) (f : ℕ → ℕ) → ((s : ℕ) → s < n → p s ≡ false) → latest n p f ≡ 0
+unfolding latest
+latest-none zero p f none = refl
+latest-none (suc n) p f none = rw (none n (omega arith)) (latest-none n p f (λ s h. none s (omega arith)))
+
+-- A basic or test arc is an arc of sort 0 or 1.
+low-sort : (tb : Table) (r : ℕ) → (basic tb r || test tb r) ≡ true → (tb .kind r ≡ 3) × (tb .sort r < 2)
+low-sort tb r e =
+    ⊎-elim (λ (b : basic tb r ≡ true). of-sort 0 b (omega arith)) (λ (b : test tb r ≡ true). of-sort 1 b (omega arith)) (or-cases (basic tb r) (test tb r) e)
+  where
+    of-sort : (s : ℕ) → (is tb 3 r && eqb (tb .sort r) s) ≡ true → s < 2 → (tb .kind r ≡ 3) × (tb .sort r < 2)
+    of-sort s b l =
+        (eqb-true _ _ (and-left (is tb 3 r) (eqb (tb .sort r) s) b), omega (arith, eqb-true (tb .sort r) s (and-right (is tb 3 r) (eqb (tb .sort r) s) b)))
+
+-- An arc of sort 0 or 1 is a basic or test arc.
+sort-low : (tb : Table) (r : ℕ) → tb .kind r ≡ 3 → tb .sort r < 2 → (basic tb r || test tb r) ≡ true
+sort-low tb r k l =
+    ⊎-elim (λ (e : eqb (tb .sort r) 0 ≡ true). or-true-left (test tb r) (and-true (eq-eqb _ _ k) e))
+    (λ (e : eqb (tb .sort r) 0 ≡ false).
+    let z : ¬ (tb .sort r ≡ 0) = eqb-false (tb .sort r) 0 e in
+    or-true-right (basic tb r) (and-true (eq-eqb _ _ k) (eq-eqb (tb .sort r) 1 (omega arith))))
+    (either (eqb (tb .sort r) 0))
+
+-- An input arc from a place to a transition.
+abbrev Arc : Table → ℕ → ℕ → ℕ → Type 0
+Arc tb p t r = (r < tb .records) × (tb .kind r ≡ 3) × (tb .sort r < 3) × (tb .one r ≡ p) × (tb .two r ≡ t)
+
+-- Equal weights: every arc weighs something, so a cell that is not 0 is an arc's, and no two input arcs share a cell.
+module _ (tb : Table) (w s : List (List ℕ)) (gw : Weights tb w) (gs : Sorts tb s)
+    (arcs : (r : ℕ) → r < tb .records → tb .kind r ≡ 3 → (tb .one r < 128) × (tb .two r < 64) × (1 ≤ tb .four r) × (tb .sort r ≤ 3))
+    (single : (r q : ℕ) → r < tb .records → q < tb .records → tb .kind r ≡ 3 → tb .kind q ≡ 3 → tb .sort r < 3 → tb .sort q < 3
+    → tb .one r ≡ tb .one q → tb .two r ≡ tb .two q → r ≡ q) where
+  module _ (p t : ℕ) (hp : p < 128) (ht : t < 64) where
+    -- The tests of an input arc, as facts.
+    arc-of : (r : ℕ) → r < tb .records → input tb p t r ≡ true → Arc tb p t r
+    arc-of r h e =
+        let x = each (is tb 3 r) (ltb (tb .sort r) 3) (eqb (tb .one r) p) (eqb (tb .two r) t) e in
+        (h, eqb-true _ _ (x .0), ltb-true _ _ (x .1), eqb-true _ _ (x .2), eqb-true _ _ (x .3))
+
+    -- A cell holds its arc's weight and sort.
+    cell-arc : (r : ℕ) → Arc tb p t r → (cell w p t ≡ tb .four r) × (cell s p t ≡ tb .sort r)
+    cell-arc r a =
+        let passes : input tb p t r ≡ true = all (eq-eqb _ _ (a .1)) (lt-ltb _ _ (a .2)) (eq-eqb _ _ (a .3)) (eq-eqb _ _ (a .4)) in (
+          gw .holds p t hp ht ∙ latest-is (tb .records) (input tb p t) (tb .four) r (a .0) passes alone,
+          gs .holds p t hp ht ∙ latest-is (tb .records) (input tb p t) (tb .sort) r (a .0) passes alone,
+        )
+      where
+        alone : (q : ℕ) → q < tb .records → input tb p t q ≡ true → q ≡ r
+        alone q h e =
+            let b = arc-of q h e in
+            single q r h (a .0) (b .1) (a .1) (b .2) (a .2) (b .3 ∙ sym (a .3)) (b .4 ∙ sym (a .4))
+
+    -- A cell that weighs something has an arc.
+    arc-at : ¬ (cell w p t ≡ 0) → (r : ℕ) × Arc tb p t r
+    arc-at n =
+        ⊎-elim
+        (λ (e : some (tb .records) (input tb p t) ≡ true).
+        let x = some-elim (tb .records) (input tb p t) e in
+        (x .0, arc-of (x .0) (x .1) (x .2)))
+        (λ (e : some (tb .records) (input tb p t) ≡ false).
+        absurd (n (gw .holds p t hp ht ∙ latest-none (tb .records) (input tb p t) (tb .four) (none-elim (tb .records) (input tb p t) e))))
+        (either (some (tb .records) (input tb p t)))
+
+  -- So the cells find the same two arcs as the table.
+  pub inhibits-same : (i j : ℕ) → i < 64 → j < 64 → inhibits-by w s i j ≡ inhibited tb i j
+  unfolding inhibits-by inhibited
+  inhibits-same i j hi hj =
+      same-test (inhibits-by w s i j) (inhibited tb i j)
+      (λ e.
+      let x = some-elim 128 tests (and-right (ltb i 64 && ltb j 64) (some 128 tests) e) in
+      to (x .0) (x .1) (x .2))
+      (λ e.
+      let x = two-elim (tb .records) _ _ e in
+      from (x .0) (x .1) (x .2) (x .3) (x .4) (x .5))
+    where
+      tests : ℕ → Bool
+      tests p = not (eqb (cell w p i) 0) && eqb (cell w p j) (cell w p i) && ltb (cell s p i) 2 && eqb (cell s p j) 2
+
+      to : (p : ℕ) → p < 128 → tests p ≡ true → inhibited tb i j ≡ true
+      to p hp e =
+          let x = each (not (eqb (cell w p i) 0)) (eqb (cell w p j) (cell w p i)) (ltb (cell s p i) 2) (eqb (cell s p j) 2) e in
+          let some-weight : ¬ (cell w p i ≡ 0) = eqb-false _ _ (not-true (eqb (cell w p i) 0) (x .0)) in
+          let weights : cell w p j ≡ cell w p i = eqb-true _ _ (x .1) in
+          let a = arc-at p i hp hi some-weight in
+          let b = arc-at p j hp hj (λ z. some-weight (sym weights ∙ z)) in
+          let at-a = cell-arc p i hp hi (a .0) (a .1) in
+          let at-b = cell-arc p j hp hj (b .0) (b .1) in
+          two-intro (tb .records) _ _ (a .0) (b .0) (a .1 .0) (b .1 .0)
+          (and-true (sort-low tb (a .0) (a .1 .1) (omega (arith, at-a .1, ltb-true (cell s p i) 2 (x .2)))) (eq-eqb _ _ (a .1 .4)))
+          (all (and-true (eq-eqb _ _ (b .1 .1)) (eq-eqb (tb .sort (b .0)) 2 (sym (at-b .1) ∙ eqb-true (cell s p j) 2 (x .3))))
+          (eq-eqb _ _ (b .1 .4)) (eq-eqb _ _ (b .1 .3 ∙ sym (a .1 .3))) (eq-eqb _ _ (sym (at-b .0) ∙ weights ∙ at-a .0)))
+
+      from : (r q : ℕ) → r < tb .records → q < tb .records → ((basic tb r || test tb r) && eqb (tb .two r) i) ≡ true
+          → (inhibitor tb q && eqb (tb .two q) j && eqb (tb .one q) (tb .one r) && eqb (tb .four q) (tb .four r)) ≡ true
+          → inhibits-by w s i j ≡ true
+      from r q hr hq er eq =
+          let low = low-sort tb r (and-left (basic tb r || test tb r) (eqb (tb .two r) i) er) in
+          let x = each (inhibitor tb q) (eqb (tb .two q) j) (eqb (tb .one q) (tb .one r)) (eqb (tb .four q) (tb .four r)) eq in
+          let sort-q : tb .sort q ≡ 2 = eqb-true _ _ (and-right (is tb 3 q) (eqb (tb .sort q) 2) (x .0)) in
+          let known = arcs r hr (low .0) in
+          let p = tb .one r in
+          let a : Arc tb p i r = (hr, low .0, omega arith, refl, eqb-true _ _ (and-right (basic tb r || test tb r) (eqb (tb .two r) i) er)) in
+          let b : Arc tb p j q =
+          (hq, eqb-true _ _ (and-left (is tb 3 q) (eqb (tb .sort q) 2) (x .0)), omega arith, eqb-true _ _ (x .2), eqb-true _ _ (x .1)) in
+          let at-a = cell-arc p i (known .0) hi r a in
+          let at-b = cell-arc p j (known .0) hj q b in
+          and-true (and-true (lt-ltb i 64 hi) (lt-ltb j 64 hj))
+          (some-intro 128 tests p (known .0)
+          (all (ap not (ne-eqb (cell w p i) 0 (λ z. omega (arith, at-a .0, known .2))))
+          (eq-eqb _ _ (at-b .0 ∙ eqb-true (tb .four q) (tb .four r) (x .3) ∙ sym (at-a .0))) (lt-ltb (cell s p i) 2 (omega (arith, at-a .1, low .1)))
+          (eq-eqb _ _ (at-b .1 ∙ sort-q))))

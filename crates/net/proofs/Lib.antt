@@ -1,0 +1,4 @@
+-- What the proofs of the functions share, and the laws that carry the rows to the meaning.
+pub mod Step
+pub mod Tests
+pub mod Carry

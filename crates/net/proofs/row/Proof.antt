@@ -1,0 +1,21 @@
+-- `row` reads its row: within the rows the element, and past the last what a list gives there.
+use mathlib.Core.Path.{sym}
+use lib.ListN.{List·getD-eq-default}
+use borrow.Author.Needs.{needs}
+use Rattle.net.proofs.row.Statement.{statement}
+use Rattle.net.proofs.row.Tie as tie
+
+mul-result : tie.Need-mul-result
+mul-result c = search needs
+
+shared-slice-read-result : tie.Need-shared-slice-read-result
+shared-slice-read-result c = search needs
+
+returns : tie.Need-returns
+returns c = search needs
+
+returns-2 : tie.Need-returns-2
+returns-2 c = sym (List·getD-eq-default (c .before .args .rows .now) 0 (c .if1 .left))
+
+pub row-spec : {M : Type 1} → statement M
+row-spec = tie.close (tie.spec mul-result shared-slice-read-result returns returns-2)

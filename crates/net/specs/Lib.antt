@@ -1,0 +1,2 @@
+-- What the rows of a net hold.
+pub mod Rows

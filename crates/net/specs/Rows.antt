@@ -1,0 +1,45 @@
+-- What each array holds, in terms of the table's records.
+use mathlib.Core.Bool.{Bool, cond, not, _&&_}
+use mathlib.Core.List.{List, []}
+use mathlib.Core.Path.{_≡_}
+use Prim.Native.Nat.{ℕ, zero, suc, _<_}
+use lib.Dec.{ltb, eqb}
+use lib.ListN.{getD}
+use Rattle.meaning.specs.Below.{some}
+use Rattle.meaning.specs.Bytes.{bit}
+use Rattle.meaning.specs.Table.{Table, is, basic}
+
+-- Bit y of row x: some record of the kind and sort has byte 1 at x and byte 2 at y.
+pub record Gathered (tb : Table) (kind sort : ℕ) (rows : List ℕ) : Type 0 where
+  pub holds : (x y : ℕ) → x < 128 → y < 64
+      → bit (getD rows x 0) y ≡ some (tb .records) (λ r. is tb kind r && eqb (tb .sort r) sort && eqb (tb .one r) x && eqb (tb .two r) y)
+
+-- Bit j of row i: some basic arc to i comes from a place whose row has j.
+pub record Conflicts (tb : Table) (takers rows : List ℕ) : Type 0 where
+  pub holds : (i j : ℕ) → i < 64 → j < 64
+      → bit (getD rows i 0) j ≡ some (tb .records) (λ r. basic tb r && eqb (tb .two r) i && bit (getD takers (tb .one r) 0) j)
+
+-- What column f says in the last of the first n records that passes p; 0 where none does.
+unfoldable pub latest : ℕ → (ℕ → Bool) → (ℕ → ℕ) → ℕ
+latest zero p f = 0
+latest (suc n) p f = cond (p n) (f n) (latest n p f)
+
+-- Record r is an input arc from place p to transition t.
+abbrev pub input : Table → ℕ → ℕ → ℕ → Bool
+input tb p t r = is tb 3 r && ltb (tb .sort r) 3 && eqb (tb .one r) p && eqb (tb .two r) t
+
+-- What stands at place p and transition t of an array of rows.
+abbrev pub cell : List (List ℕ) → ℕ → ℕ → ℕ
+cell m p t = getD (getD m p []) t 0
+
+pub record Weights (tb : Table) (w : List (List ℕ)) : Type 0 where
+  pub holds : (p t : ℕ) → p < 128 → t < 64 → cell w p t ≡ latest (tb .records) (input tb p t) (tb .four)
+
+pub record Sorts (tb : Table) (s : List (List ℕ)) : Type 0 where
+  pub holds : (p t : ℕ) → p < 128 → t < 64 → cell s p t ≡ latest (tb .records) (input tb p t) (tb .sort)
+
+-- Some place has an arc of sort 0 or 1 to i and one of sort 2 and the same weight to j.
+unfoldable pub inhibits-by : List (List ℕ) → List (List ℕ) → ℕ → ℕ → Bool
+inhibits-by w s i j =
+    ltb i 64 && ltb j 64
+    && some 128 (λ p. not (eqb (cell w p i) 0) && eqb (cell w p j) (cell w p i) && ltb (cell s p i) 2 && eqb (cell s p j) 2)

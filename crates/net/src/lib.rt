@@ -1,0 +1,164 @@
+// A table read into rows: who takes from a place, who wants a condition, who is in conflict; the input arcs' weights and sorts, place by
+// transition.
+use records::Rec;
+ghost use mathlib.Core.Bool.{not, _&&_};
+ghost use mathlib.Core.Path.{_≡_};
+ghost use lib.Dec.{eqb, ltb};
+ghost use lib.ListN.{getD};
+ghost use Rattle.meaning.specs.Table.{table};
+ghost use Rattle.net.specs.Rows.{Gathered, Conflicts, Weights, Sorts, inhibits-by};
+
+// Is x of this kind and sort, with byte 1 below 128?
+fn named(x: Rec, kind: u8, sort: u8) -> bool
+    ensures { λ b. ⌜ b ≡ (eqb (x .kind) kind && eqb (x .sort) sort && ltb (x .one) 128) ⌝ }
+{
+    if x.kind == kind {
+        if x.sort == sort { x.one < 128 } else { false }
+    } else {
+        false
+    }
+}
+
+// Is x a basic arc, to a transition below 64?
+fn basic(x: Rec) -> bool
+    ensures { λ b. ⌜ b ≡ (eqb (x .kind) 3 && eqb (x .sort) 0 && ltb (x .two) 64) ⌝ }
+{
+    if x.kind == 3 {
+        if x.sort == 0 { x.two < 64 } else { false }
+    } else {
+        false
+    }
+}
+
+// Is x an input arc, from a place below 128 to a transition below 64?
+fn input(x: Rec) -> bool
+    ensures { λ b. ⌜ b ≡ (eqb (x .kind) 3 && ltb (x .sort) 3 && ltb (x .one) 128 && ltb (x .two) 64) ⌝ }
+{
+    if x.kind == 3 {
+        if x.sort < 3 {
+            if x.one < 128 { x.two < 64 } else { false }
+        } else {
+            false
+        }
+    } else {
+        false
+    }
+}
+
+// For each byte 1 the set of the bytes 2 with which a record of this kind and sort names it.
+pub fn gather(t: &[u8], kind: u8, sort: u8) -> [u64; 128]
+    ensures { λ r. ⌜ Gathered (table (now (t .entry))) kind sort r ⌝ }
+{
+    let n = t.len() / 8;
+    let mut rows = [0u64; 128];
+    let mut r = 0;
+    while r < n {
+        let x = records::read(t, r);
+        let one = records::wide(x.one);
+        if named(x, kind, sort) {
+            rows[one] = sets::with(rows[one], records::wide(x.two));
+        }
+        r += 1;
+    }
+    rows
+}
+
+// Row i, and 0 past the last.
+fn row(rows: &[u64], i: usize) -> u64
+    ensures { λ r. ⌜ r ≡ getD (now (rows .entry)) i 0 ⌝ }
+{
+    if i < rows.len() { rows[i] } else { 0 }
+}
+
+// For each transition the set of those that take from a place from which it takes: takers[p] is who takes from place p.
+pub fn conflicts(t: &[u8], takers: &[u64; 128]) -> [u64; 64]
+    ensures { λ r. ⌜ Conflicts (table (now (t .entry))) (now (takers .entry)) r ⌝ }
+{
+    let n = t.len() / 8;
+    let mut rows = [0u64; 64];
+    let mut r = 0;
+    while r < n {
+        let x = records::read(t, r);
+        let one = records::wide(x.one);
+        let two = records::wide(x.two);
+        if basic(x) {
+            rows[two] = sets::union(rows[two], row(takers, one));
+        }
+        r += 1;
+    }
+    rows
+}
+
+// The weight of the input arc from each place to each transition, 0 where there is none.
+pub fn weights(t: &[u8]) -> [[u16; 64]; 128]
+    ensures { λ w. ⌜ Weights (table (now (t .entry))) w ⌝ }
+{
+    let n = t.len() / 8;
+    let mut w = [[0u16; 64]; 128];
+    let mut r = 0;
+    while r < n {
+        let x = records::read(t, r);
+        let one = records::wide(x.one);
+        let two = records::wide(x.two);
+        if input(x) {
+            w[one][two] = x.four;
+        }
+        r += 1;
+    }
+    w
+}
+
+// The sort of the input arc from each place to each transition, 0 where there is none.
+pub fn sorts(t: &[u8]) -> [[u8; 64]; 128]
+    ensures { λ s. ⌜ Sorts (table (now (t .entry))) s ⌝ }
+{
+    let n = t.len() / 8;
+    let mut s = [[0u8; 64]; 128];
+    let mut r = 0;
+    while r < n {
+        let x = records::read(t, r);
+        let one = records::wide(x.one);
+        let two = records::wide(x.two);
+        if input(x) {
+            s[one][two] = x.sort;
+        }
+        r += 1;
+    }
+    s
+}
+
+// Of two arcs from one place, by weight and sort: is the first a basic or test arc and the second an inhibitor arc of equal weight?
+fn opposed(weight: u16, other: u16, sort: u8, against: u8) -> bool
+    ensures { λ r. ⌜ r ≡ (not (eqb weight 0) && eqb other weight && ltb sort 2 && eqb against 2) ⌝ }
+{
+    if weight == 0 {
+        return false;
+    }
+    if other != weight {
+        return false;
+    }
+    if 2 <= sort {
+        return false;
+    }
+    against == 2
+}
+
+// Does some place have a basic or test arc to i and an inhibitor arc of equal weight to j?
+pub fn inhibits(w: &[[u16; 64]; 128], s: &[[u8; 64]; 128], i: usize, j: usize) -> bool
+    ensures { λ r. ⌜ r ≡ inhibits-by (now (w .entry)) (now (s .entry)) i j ⌝ }
+{
+    if 64 <= i {
+        return false;
+    }
+    if 64 <= j {
+        return false;
+    }
+    let mut p = 0;
+    while p < 128 {
+        if opposed(w[p][i], w[p][j], s[p][i], s[p][j]) {
+            return true;
+        }
+        p += 1;
+    }
+    false
+}

@@ -1,0 +1,3 @@
+-- Which pairs are loose, by the rows and by the table.
+pub mod Candidates
+pub mod Carry

@@ -1,0 +1,2 @@
+-- When a pair is settled, by the rows of a net.
+pub mod Settled

@@ -1,0 +1,4 @@
+-- The laws of the closed priority.
+pub mod Round
+pub mod Warshall
+pub mod Carry

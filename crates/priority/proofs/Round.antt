@@ -1,0 +1,52 @@
+-- One round, row by row: a row that has k gets all that k's row has, and the others stay.
+use mathlib.Core.Bool.{true, false, _&&_, _||_, or-false, and-false}
+use mathlib.Core.List.{List}
+use mathlib.Core.Path.{_≡_, sym, ap, _∙_}
+use Prim.Native.Nat.{ℕ, _+_, _≤_, _<_}
+use native.Mathlib.Omega.{arith}
+use lib.ListN.{getD, set, length, length-set}
+use lib.Seq.{getD-set-same, getD-set-other}
+use borrow.Author.Count.{below-more}
+use Rattle.meaning.specs.Bytes.{bit}
+use Rattle.sets.proofs.Bits.{bit-zero}
+
+module _ (rows : List ℕ) (k : ℕ) where
+  -- The set s is row v after the round over k.
+  abbrev pub Joins : ℕ → ℕ → Type 0
+  Joins v s = (t : ℕ) → bit s t ≡ (bit (getD rows v 0) t || (bit (getD rows v 0) k && bit (getD rows k 0) t))
+
+  -- A row that has k gets all that k's row has; one that lacks k stays, and so does any where k's row is empty.
+  pub with-k : (v s : ℕ) → bit (getD rows v 0) k ≡ true → ((t : ℕ) → bit s t ≡ (bit (getD rows v 0) t || bit (getD rows k 0) t)) → Joins v s
+  with-k v s e f t = f t ∙ rw e
+
+  pub lacks-k : (v : ℕ) → bit (getD rows v 0) k ≡ false → Joins v (getD rows v 0)
+  lacks-k v e t = rw e (sym (or-false (bit (getD rows v 0) t)))
+
+  pub empty-k : (v : ℕ) → getD rows k 0 ≡ 0 → Joins v (getD rows v 0)
+  empty-k v e t =
+      let none : bit (getD rows k 0) t ≡ false = ap (λ (x : ℕ). bit x t) e ∙ bit-zero t in
+      rw (none, and-false (bit (getD rows v 0) k)) (sym (or-false (bit (getD rows v 0) t)))
+
+  -- The round over k is done for the rows below u, and the others are as they were.
+  pub record Done (u : ℕ) (next : List ℕ) : Type 0 where
+    pub long : length next ≡ 64
+    pub below : (v : ℕ) → v < u → Joins v (getD next v 0)
+    pub above : (v : ℕ) → u ≤ v → getD next v 0 ≡ getD rows v 0
+
+  -- Row u is done next: it stays, or the set s is put there.
+  pub kept : {u : ℕ} {next : List ℕ} → Joins u (getD rows u 0) → Done u next → Done (u + 1) next
+  kept {u} {next} j d =
+      record {
+        long = d .long;
+        below = below-more _ _ (d .below) (rw (d .above u (omega arith)) j);
+        above = λ v h. d .above v (omega arith);
+      }
+
+  pub put : (s : ℕ) {u : ℕ} {next : List ℕ} → u < 64 → Joins u s → Done u next → Done (u + 1) (set next u s)
+  put s {u} {next} h j d =
+      let here : getD (set next u s) u 0 ≡ s = getD-set-same next u s 0 (omega arith) in
+      record {
+        long = length-set next u s ∙ d .long;
+        below = below-more _ _ (λ v l. rw (getD-set-other next u v s 0 (λ e. omega arith)) (d .below v l)) (rw here j);
+        above = λ v l. getD-set-other next u v s 0 (λ e. omega arith) ∙ d .above v (omega arith);
+      }

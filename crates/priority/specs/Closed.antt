@@ -1,0 +1,22 @@
+-- The closed rows are the transitive closure of the written ones.
+use mathlib.Core.Bool.{true, _&&_, _||_}
+use mathlib.Core.List.{List}
+use mathlib.Core.Logic.{_↔_}
+use mathlib.Core.Path.{_≡_}
+use Prim.Native.Nat.{ℕ, _+_, _≤_, _<_}
+use lib.ListN.{getD}
+use Rattle.meaning.specs.Bytes.{bit}
+
+-- u stands above t by a chain of written pairs, all of them transitions below 64.
+pub data Chain (index : List ℕ) : ℕ → ℕ → Type 0 where
+  pair : {u t : ℕ} → u < 64 → t < 64 → bit (getD index (512 + u) 0) t ≡ true → Chain index u t
+  chain : {u v t : ℕ} → Chain index u v → Chain index v t → Chain index u t
+
+pub record Closed (index rows : List ℕ) : Type 0 where
+  pub holds : (u t : ℕ) → u < 64 → t < 64 → (bit (getD rows u 0) t ≡ true) ↔ Chain index u t
+
+-- One round: the rows after it have what they had, and over k all that k's row had; with no row k they are as they were.
+pub record Round (rows : List ℕ) (k : ℕ) (next : List ℕ) : Type 0 where
+  pub over : k < 64 → (u t : ℕ) → u < 64 → t < 64
+      → bit (getD next u 0) t ≡ (bit (getD rows u 0) t || (bit (getD rows u 0) k && bit (getD rows k 0) t))
+  pub still : 64 ≤ k → next ≡ rows

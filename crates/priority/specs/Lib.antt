@@ -1,0 +1,2 @@
+-- What closing a relation means.
+pub mod Closed

@@ -1,0 +1,3 @@
+-- The laws of a record's columns.
+pub mod Columns
+pub mod Limits

@@ -1,0 +1,2 @@
+-- What the functions on one record promise.
+pub mod Record

@@ -1,0 +1,146 @@
+// One record of a table: its columns as numbers, and whether it is one that the table of kinds shows (answers 2 and 3).
+ghost use mathlib.Core.Path.{_≡_};
+ghost use mathlib.Core.Bool.{not, _&&_, _||_};
+ghost use lib.Dec.{ltb, eqb};
+ghost use Prim.Native.Nat.{_+_, _*_};
+ghost use Rattle.meaning.specs.Table.{table};
+ghost use Rattle.records.specs.Record.{Reads, interval-of, fault-of};
+
+// The columns of a record: byte 0, byte 1, byte 2, byte 3, bytes 4-5, bytes 6-7.
+pub struct Rec {
+    pub kind: u8,
+    pub one: u8,
+    pub two: u8,
+    pub sort: u8,
+    pub four: u16,
+    pub six: u16,
+}
+
+// A byte as a number that counts.
+pub fn wide(x: u8) -> usize
+    ensures { λ r. ⌜ r ≡ x ⌝ }
+{
+    x as usize
+}
+
+// Two bytes as a number, the lower first.
+fn word(low: u8, high: u8) -> u16
+    ensures { λ r. ⌜ r ≡ low + 256 * high ⌝ }
+{
+    low as u16 + 256 * (high as u16)
+}
+
+// Record r of a table; past the last whole record all is 0.
+pub fn read(t: &[u8], r: usize) -> Rec
+    ensures { λ x. ⌜ Reads (table (now (t .entry))) r x ⌝ }
+{
+    if r < t.len() / 8 {
+        let at = 8 * r;
+        Rec {
+            kind: t[at],
+            one: t[at + 1],
+            two: t[at + 2],
+            sort: t[at + 3],
+            four: word(t[at + 4], t[at + 5]),
+            six: word(t[at + 6], t[at + 7]),
+        }
+    } else {
+        Rec {
+            kind: 0,
+            one: 0,
+            two: 0,
+            sort: 0,
+            four: 0,
+            six: 0,
+        }
+    }
+}
+
+// The constant rows of kinds 1 to 7: the highest value of each column, 0 where a column is not used.
+const ONE: [u8; 7] = [127, 63, 127, 63, 63, 127, 63];
+
+const TWO: [u8; 7] = [0, 0, 63, 63, 63, 63, 63];
+
+const SORT: [u8; 7] = [0, 2, 3, 1, 0, 0, 0];
+
+const FOUR: [u16; 7] = [65535, 65535, 65535, 0, 0, 0, 0];
+
+const SIX: [u16; 7] = [0, 65535, 0, 0, 0, 0, 0];
+
+// A transition's a and b are as its sort asks.
+fn interval(sort: u8, a: u16, b: u16) -> bool
+    ensures { λ r. ⌜ r ≡ interval-of sort a b ⌝ }
+{
+    if sort == 0 {
+        if a == 0 {
+            return b == 0;
+        }
+        return false;
+    }
+    if a == 0 {
+        return false;
+    }
+    if sort == 1 {
+        if a <= b {
+            return b <= 65534;
+        }
+        return false;
+    }
+    if sort == 2 {
+        return b == 0;
+    }
+    false
+}
+
+// A weight of 0, or an interval that is not as its sort asks.
+fn bad_value(kind: u8, sort: u8, a: u16, b: u16) -> bool
+    ensures { λ r. ⌜ r ≡ ((eqb kind 3 && eqb a 0) || (eqb kind 2 && not (interval-of sort a b))) ⌝ }
+{
+    if kind == 3 {
+        return a == 0;
+    }
+    if kind == 2 {
+        return !interval(sort, a, b);
+    }
+    false
+}
+
+// A column is above the highest value that it may hold.
+fn over(one: u8, two: u8, four: u16, six: u16, x: Rec) -> bool
+    ensures { λ r. ⌜ r ≡ (ltb one (x .one) || ltb two (x .two) || ltb four (x .four) || ltb six (x .six)) ⌝ }
+{
+    if one < x.one {
+        return true;
+    }
+    if two < x.two {
+        return true;
+    }
+    if four < x.four {
+        return true;
+    }
+    six < x.six
+}
+
+// 2 or 3, the first that the record meets, or 0: its kind and sort exist, then each column is within its kind's row.
+pub fn fault(x: Rec) -> u8
+    ensures { λ f. ⌜ f ≡ fault-of x ⌝ }
+{
+    let kind = x.kind;
+    if kind == 0 {
+        return 2;
+    }
+    if 7 < kind {
+        return 2;
+    }
+    let k = wide(kind) - 1;
+    if SORT[k] < x.sort {
+        return 2;
+    }
+    if over(ONE[k], TWO[k], FOUR[k], SIX[k], x) {
+        return 3;
+    }
+    if bad_value(kind, x.sort, x.four, x.six) {
+        return 3;
+    }
+    0
+}

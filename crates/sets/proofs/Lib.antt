@@ -1,0 +1,2 @@
+-- The laws of sets in one word.
+pub mod Bits

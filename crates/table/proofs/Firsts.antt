@@ -1,0 +1,138 @@
+-- What the index is asked: each answer is the first candidate that passes, since those before it were seen not to.
+use mathlib.Core.Bool.{Bool, true, false, cond, not, _&&_, _||_}
+use mathlib.Core.List.{List}
+use mathlib.Core.Logic.{⊎-elim}
+use mathlib.Core.Path.{_≡_, refl, sym, ap, _∙_}
+use Prim.Native.Nat.{ℕ, _+_, _-_, _^_, _<_}
+use native.Mathlib.Nat.{zero-add, eq-or-lt-of-le}
+use native.Mathlib.Numerals.{add-one}
+use native.Mathlib.Omega.{arith}
+use lib.Dec.{eqb, ltb}
+use lib.ListN.{getD}
+use borrow.Author.Tests.{lt-ltb, le-ltb, ltb-true, ltb-false}
+use Rattle.meaning.specs.Below.{some, first}
+use Rattle.meaning.specs.Table.{Table}
+use Rattle.meaning.specs.Bytes.{bit}
+use Rattle.meaning.proofs.Bool.{either}
+use Rattle.meaning.proofs.Below.{last, some-same, first-le, first-passes, first-before, first-is, first-none, first-same}
+use Rattle.sets.proofs.Bits.{zero-set}
+use Rattle.records.specs.declared.Rec.{Rec}
+use Rattle.records.specs.Record.{Reads}
+use Rattle.table.specs.Index.{has-transition, unknown-test, names-unknown, names-unknown-at, none-of, lone}
+
+-- What holds below i and at i holds below i + 1, where a test fails.
+pub none-more : (i : ℕ) (p : ℕ → Bool) → ((k : ℕ) → k < i → p k ≡ false) → p i ≡ false → (k : ℕ) → k < i + 1 → p k ≡ false
+none-more i p f e k h = ⊎-elim (λ (q : k ≡ i). ap p q ∙ e) (f k) (last (rw add-one at h))
+
+-- And nothing is below 0.
+pub none-yet : (p : ℕ → Bool) (k : ℕ) → k < 0 → p k ≡ false
+none-yet p k h = absurd (omega arith)
+
+-- WHAT A RECORD NAMES
+
+-- A record as it was read names what the table's record names.
+pub named-at : (tb : Table) (rows : List ℕ) (k : ℕ) (x : Rec) → Reads tb k x → names-unknown rows x ≡ names-unknown-at tb rows k
+unfolding names-unknown names-unknown-at
+named-at tb rows k x h = rw (h .kind, h .one, h .two)
+
+-- Row q has not its bit 0.
+abbrev pub absent : List ℕ → ℕ → Bool
+absent rows q = not (bit (getD rows q 0) 0)
+
+-- A test that is false from the start, between others and as the last.
+drop-middle : (a b : Bool) → (a || b) ≡ (a || false || b)
+drop-middle true b = refl
+drop-middle false b = refl
+
+drop-last : (a : Bool) → a ≡ (a || false)
+drop-last true = refl
+drop-last false = refl
+
+-- Kind by kind, with byte 1 counted as o and byte 2 as t.
+module _ (rows : List ℕ) (x : Rec) {o t : ℕ} (o-is : o ≡ x .one) (t-is : t ≡ x .two) where
+  pub arc-names : (a b : Bool) → a ≡ absent rows o → b ≡ absent rows (128 + t) → x .kind ≡ 3 → (a || b) ≡ names-unknown rows x
+  unfolding names-unknown unknown-test
+  arc-names a b p q e = rw (p, q, o-is, t-is, e) (drop-middle (not (bit (getD rows (x .one) 0) 0)) (not (has-transition rows (x .two))))
+
+  pub condition-names : (a : Bool) → a ≡ absent rows (128 + o) → x .kind ≡ 4 → a ≡ names-unknown rows x
+  unfolding names-unknown unknown-test
+  condition-names a p e = rw (p, o-is, e) (drop-last _)
+
+  pub priority-names : (a b : Bool) → a ≡ absent rows (128 + o) → b ≡ absent rows (128 + t) → x .kind ≡ 5 → (a || b) ≡ names-unknown rows x
+  unfolding names-unknown unknown-test
+  priority-names a b p q e = rw (p, q, o-is, t-is, e)
+
+  pub action-names : (a : Bool) → a ≡ absent rows o → x .kind ≡ 6 → a ≡ names-unknown rows x
+  unfolding names-unknown unknown-test
+  action-names a p e = rw (p, o-is, e) (drop-last _ ∙ drop-last _)
+
+  pub function-names : (a : Bool) → a ≡ absent rows (128 + o) → x .kind ≡ 7 → a ≡ names-unknown rows x
+  unfolding names-unknown unknown-test
+  function-names a p e = rw (p, o-is, e) (drop-last _)
+
+-- IS THERE NONE
+
+-- No place comes before no transition.
+pub none-first : (rows : List ℕ) (a b : Bool) → a ≡ not (some 128 (λ i. bit (getD rows (0 + i) 0) 0))
+    → b ≡ not (some 64 (λ i. bit (getD rows (128 + i) 0) 0)) → cond a 0 (cond b 1 2) ≡ first 2 (none-of rows)
+unfolding none-of
+none-first rows a b p q = go a b (p ∙ ap not (some-same 128 _ _ (λ i h. ap (λ (n : ℕ). bit (getD rows n 0) 0) (zero-add i)))) q
+  where
+    go : (a b : Bool) → a ≡ none-of rows 0 → b ≡ none-of rows 1 → cond a 0 (cond b 1 2) ≡ first 2 (none-of rows)
+    go true b e f = sym (first-is 2 (none-of rows) 0 (omega arith) (sym e) (none-yet (none-of rows)))
+    go false true e f = sym (first-is 2 (none-of rows) 1 (omega arith) (sym f) (none-more 0 (none-of rows) (none-yet (none-of rows)) (sym e)))
+    go false false e f =
+        sym (first-none 2 (none-of rows) (none-more 1 (none-of rows) (none-more 0 (none-of rows) (none-yet (none-of rows)) (sym e)) (sym f)))
+
+-- IS ONE ALONE
+
+-- The arcs between place p and transition t.
+abbrev pub arc-bit : List ℕ → ℕ → ℕ → Bool
+arc-bit rows p t = bit (getD rows (192 + p) 0) t || bit (getD rows (320 + p) 0) t
+
+-- A place is alone if its row has its bit and the two rows of its arcs are empty.
+pub lone-place : (rows : List ℕ) (p arcs : ℕ) → p < 128 → arcs < 2 ^ 64 → ((t : ℕ) → bit arcs t ≡ arc-bit rows p t)
+    → (bit (getD rows p 0) 0 && eqb arcs 0) ≡ lone rows p
+unfolding lone
+lone-place rows p arcs h l e =
+    rw (lt-ltb p 128 h, zero-set arcs l) (ap (λ (b : Bool). bit (getD rows p 0) 0 && not b) (some-same 64 _ _ (λ t _. e t)))
+
+-- One place more: its arcs join those gathered.
+pub more-arcs : (rows : List ℕ) (p all arcs joined : ℕ) → ((t : ℕ) → bit all t ≡ some p (λ p. arc-bit rows p t))
+    → ((t : ℕ) → bit arcs t ≡ arc-bit rows p t) → ((t : ℕ) → bit joined t ≡ (bit all t || bit arcs t))
+    → (t : ℕ) → bit joined t ≡ some (p + 1) (λ p. arc-bit rows p t)
+unfolding some
+more-arcs rows p all arcs joined f g h t = h t ∙ rw (add-one p, f t, g t)
+
+-- A transition is alone if its row has its bit and no arc's row has it.
+pub lone-transition : (rows : List ℕ) (t all : ℕ) → ((t : ℕ) → bit all t ≡ some 128 (λ p. arc-bit rows p t))
+    → (has-transition rows t && not (bit all t)) ≡ lone rows (128 + t)
+unfolding lone
+lone-transition rows t all e =
+    let less : 128 + t - 128 ≡ t = omega arith in
+    rw (le-ltb (128 + t) 128 (omega arith), less, e t)
+
+-- The first past candidates that do not pass.
+first-after : (m n : ℕ) (p : ℕ → Bool) → ((k : ℕ) → k < m → p k ≡ false) → m + first n (λ k. p (m + k)) ≡ first (m + n) p
+first-after m n p f =
+    let q : ℕ → Bool = λ k. p (m + k) in
+    let before : (j : ℕ) → j < m + first n q → p j ≡ false =
+    λ j l.
+    ⊎-elim (λ (h : ltb j m ≡ true). f j (ltb-true j m h))
+    (λ (h : ltb j m ≡ false).
+    let e : j ≡ m + (j - m) = omega (arith, ltb-false j m h) in
+    ap p e ∙ first-before n q (j - m) (omega (arith, ltb-false j m h)))
+    (either (ltb j m)) in
+    ⊎-elim
+    (λ (e : first n q ≡ n). sym (first-none (m + n) p (λ j l. before j (omega arith)) ∙ omega arith))
+    (λ (l : first n q < n). sym (first-is (m + n) p (m + first n q) (omega arith) (first-passes n q l) before))
+    (eq-or-lt-of-le (first-le n q))
+
+-- With no place alone, the first that is alone is a transition.
+pub lone-first : (rows : List ℕ) (p all : ℕ) → p ≡ 128 → ((k : ℕ) → k < p → lone rows k ≡ false)
+    → ((t : ℕ) → bit all t ≡ some p (λ p. arc-bit rows p t))
+    → 128 + first 64 (λ t. has-transition rows t && not (bit all t)) ≡ first 192 (lone rows)
+lone-first rows p all e f g =
+    let whole : (t : ℕ) → bit all t ≡ some 128 (λ p. arc-bit rows p t) = λ t. g t ∙ ap (λ (n : ℕ). some n (λ p. arc-bit rows p t)) e in
+    ap (λ (n : ℕ). 128 + n) (first-same 64 _ _ (λ t h. lone-transition rows t all whole))
+    ∙ first-after 128 64 (lone rows) (λ k h. f k (omega arith))

@@ -1,0 +1,5 @@
+-- The laws of the index.
+pub mod Rows
+pub mod Passed
+pub mod Firsts
+pub mod Carry

@@ -1,0 +1,224 @@
+-- The blocks of the index do not overlap, so two records that the page shows share a row exactly if they are of one class and name one thing.
+use mathlib.Core.Bool.{Bool, true, false, cond, not, _&&_, _||_, Bool·beq}
+use mathlib.Core.List.{List, [], _∷_}
+use mathlib.Core.Path.{_≡_, refl, sym, ap, _∙_}
+use mathlib.Core.Logic.{inl, inr}
+use Prim.Native.Nat.{ℕ, zero, suc, _+_, _≤_, _<_}
+use native.Mathlib.Omega.{arith}
+use lib.Dec.{ltb, leb, eqb}
+use lib.ListN.{length, getD, set, List·getD-eq-default}
+use lib.Seq.{getD-set-same, getD-set-other}
+use borrow.Author.Tests.{lt-ltb, leb-true, eqb-true, eqb-false, eq-eqb}
+use Rattle.meaning.specs.Below.{some, every}
+use Rattle.meaning.specs.Bytes.{bit}
+use Rattle.meaning.specs.Table.{Table}
+use Rattle.meaning.specs.Defined.{same, twice}
+use Rattle.meaning.specs.Says.{Shown}
+use Rattle.meaning.proofs.Bool.{and-left, and-right, and-true, same-test}
+use Rattle.meaning.proofs.Below.{every-elim, some-same}
+use Rattle.meaning.proofs.Shows.{Shows}
+use Rattle.sets.proofs.Bits.{bit-zero}
+use Rattle.meaning.proofs.Walk.{compared}
+use Rattle.table.specs.Index.{block, row, Indexed}
+
+-- THE EIGHT CLASSES OF RECORDS: places, transitions, input arcs, post arcs, conditions, priorities, actions, functions
+
+-- The first row of a class's block, its width, and the class's kind.
+abbrev pub base : ℕ → ℕ
+base c = getD (0 ∷ 128 ∷ 192 ∷ 320 ∷ 448 ∷ 512 ∷ 576 ∷ 704 ∷ []) c 0
+
+abbrev pub width : ℕ → ℕ
+width c = getD (128 ∷ 64 ∷ 128 ∷ 128 ∷ 64 ∷ 64 ∷ 128 ∷ 64 ∷ []) c 0
+
+abbrev pub kind-of : ℕ → ℕ
+kind-of c = getD (1 ∷ 2 ∷ 3 ∷ 3 ∷ 4 ∷ 5 ∷ 6 ∷ 7 ∷ []) c 0
+
+-- Where a record of this kind, byte 1 and sort stands.
+pub record Spot (k o s : ℕ) : Type 0 where
+  pub class : ℕ
+  pub low : class < 8
+  pub base-is : block k s ≡ base class
+  pub fits : o < width class
+  pub kind-is : k ≡ kind-of class
+  pub post-is : (eqb k 3 && eqb s 3) ≡ eqb class 3
+
+at : {k o s : ℕ} (c : ℕ) → c < 8 → block k s ≡ base c → o < width c → k ≡ kind-of c → (eqb k 3 && eqb s 3) ≡ eqb c 3 → Spot k o s
+at c l b f k p = record { class = c; low = l; base-is = b; fits = f; kind-is = k; post-is = p }
+
+-- What the page shows has its spot, and its byte 2 is below 64.
+pub spot : {k o t s f x : ℕ} → Shown k o t s f x → Spot k o s
+unfolding block
+spot (Shown.place a b) = at 0 (omega arith) refl (omega arith) refl refl
+spot (Shown.untimed a) = at 1 (omega arith) refl (omega arith) refl refl
+spot (Shown.between a b c d) = at 1 (omega arith) refl (omega arith) refl refl
+spot (Shown.from a b c) = at 1 (omega arith) refl (omega arith) refl refl
+spot (Shown.arc {p} {t} {s} {w} a b c d e) = go (eqb s 3) refl
+  where
+    go : (v : Bool) → eqb s 3 ≡ v → Spot 3 p s
+    go true q = at 3 (omega arith) (rw q) (omega arith) refl q
+    go false q = at 2 (omega arith) (rw q) (omega arith) refl q
+spot (Shown.condition a b c) = at 4 (omega arith) refl (omega arith) refl refl
+spot (Shown.priority a b) = at 5 (omega arith) refl (omega arith) refl refl
+spot (Shown.action a b) = at 6 (omega arith) refl (omega arith) refl refl
+spot (Shown.function a b) = at 7 (omega arith) refl (omega arith) refl refl
+
+pub two-low : {k o t s f x : ℕ} → Shown k o t s f x → t < 64
+two-low (Shown.place a b) = omega arith
+two-low (Shown.untimed a) = omega arith
+two-low (Shown.between a b c d) = omega arith
+two-low (Shown.from a b c) = omega arith
+two-low (Shown.arc a b c d e) = omega arith
+two-low (Shown.condition a b c) = omega arith
+two-low (Shown.priority a b) = omega arith
+two-low (Shown.action a b) = omega arith
+two-low (Shown.function a b) = omega arith
+
+-- What is tested of every two classes holds of each two.
+classes : (p : ℕ → ℕ → Bool) → every 8 (λ a. every 8 (p a)) ≡ true → (a b : ℕ) → a < 8 → b < 8 → p a b ≡ true
+classes p e a b h l = every-elim 8 (p a) (every-elim 8 (λ a. every 8 (p a)) e a h) b l
+
+pub beq-true : (a b : Bool) → Bool·beq a b ≡ true → a ≡ b
+beq-true true true e = refl
+beq-true true false e = sym e
+beq-true false true e = e
+beq-true false false e = refl
+
+-- A class's block ends before the next one's begins, and the last within the index.
+apart : (c d : ℕ) → c < d → d < 8 → base c + width c ≤ base d
+unfolding every
+apart c d l h =
+    leb-true (base c + width c) (base d)
+    (rw (lt-ltb c d l) at (classes (λ c d. not (ltb c d) || leb (base c + width c) (base d)) refl c d (omega arith) h))
+
+pub within : (c : ℕ) → c < 8 → base c + width c ≤ 768
+unfolding every
+within c h = leb-true (base c + width c) 768 (every-elim 8 (λ c. leb (base c + width c) 768) refl c h)
+
+-- A record's row is row i of class c exactly if it is of that class and its byte 1 is i.
+pub row-test : {k o s : ℕ} (z : Spot k o s) (c i : ℕ) → c < 8 → i < width c → eqb (block k s + o) (base c + i) ≡ (eqb (z .class) c && eqb o i)
+row-test {k} {o} {s} z c i h l = same-test _ _ there back
+  where
+    there : eqb (block k s + o) (base c + i) ≡ true → (eqb (z .class) c && eqb o i) ≡ true
+    there t =
+        let e = eqb-true (block k s + o) (base c + i) t in
+        elim (compared (z .class) c) [
+          | inl q ↦ absurd (omega (arith, e, apart (z .class) c q h, z .base-is, z .fits))
+          | inr (inl q) ↦ and-true (eq-eqb (z .class) c q) (eq-eqb o i (omega (arith, e, ap base q, z .base-is)))
+          | inr (inr q) ↦ absurd (omega (arith, e, apart c (z .class) q (z .low), z .base-is))
+        ]
+
+    back : (eqb (z .class) c && eqb o i) ≡ true → eqb (block k s + o) (base c + i) ≡ true
+    back t =
+        let q = eqb-true (z .class) c (and-left _ _ t) in
+        let e = eqb-true o i (and-right (eqb (z .class) c) _ t) in
+        eq-eqb (block k s + o) (base c + i) (omega (arith, ap base q, z .base-is))
+
+-- Two classes are the same exactly if their kinds are, and of arcs both are post arcs or neither is.
+class-same : (a b : ℕ) → a < 8 → b < 8
+    → (eqb (kind-of a) (kind-of b) && (not (eqb (kind-of b) 3) || Bool·beq (eqb a 3) (eqb b 3))) ≡ eqb a b
+unfolding every
+class-same a b h l =
+    beq-true _ _
+    (classes (λ a b. Bool·beq (eqb (kind-of a) (kind-of b) && (not (eqb (kind-of b) 3) || Bool·beq (eqb a 3) (eqb b 3))) (eqb a b)) refl a b h l)
+
+-- So of two records: they are of one class exactly if they are of one kind, and of arcs both are post arcs or neither is.
+spots-same : {k o s j m w : ℕ} (y : Spot k o s) (z : Spot j m w)
+    → (eqb k j && (not (eqb j 3) || Bool·beq (eqb k 3 && eqb s 3) (eqb j 3 && eqb w 3))) ≡ eqb (y .class) (z .class)
+spots-same y z = rw (y .post-is, z .post-is, y .kind-is, z .kind-is) (class-same (y .class) (z .class) (y .low) (z .low))
+
+-- The same four tests in another order.
+shuffle : (k o t p : Bool) → (k && o && t && p) ≡ (k && p && o && t)
+shuffle false o t p = refl
+shuffle true true true true = refl
+shuffle true true true false = refl
+shuffle true true false true = refl
+shuffle true true false false = refl
+shuffle true false t true = refl
+shuffle true false t false = refl
+
+-- A class is c exactly if its kind is k, where this is so of all eight.
+pub class-is : (k c : ℕ) → every 8 (λ a. Bool·beq (eqb a c) (eqb (kind-of a) k)) ≡ true → {j o s : ℕ} (z : Spot j o s) → eqb (z .class) c ≡ eqb j k
+class-is k c e z = rw (z .kind-is) (beq-true _ _ (every-elim 8 _ e (z .class) (z .low)))
+
+module _ (tb : Table) (r : ℕ) (shown-r : Shows tb r) where
+  -- A record's row is in the index.
+  pub row-low : row tb r < 768
+  unfolding row
+  row-low =
+      let z = spot shown-r in
+      omega (arith, within (z .class) (z .low), z .base-is, z .fits)
+
+  -- Two records say the same exactly if they share a row and a bit.
+  pub same-row : (s : ℕ) → Shows tb s → same tb r s ≡ (eqb (row tb s) (row tb r) && eqb (tb .two s) (tb .two r))
+  unfolding row same
+  same-row s shown-s =
+      let z = spot shown-r in
+      let y = spot shown-s in
+      shuffle (eqb (tb .kind s) (tb .kind r)) (eqb (tb .one s) (tb .one r)) (eqb (tb .two s) (tb .two r)) _
+      ∙ ap (λ (b : Bool). b && eqb (tb .one s) (tb .one r) && eqb (tb .two s) (tb .two r)) (spots-same y z)
+      ∙ ap (λ (b : Bool). b && eqb (tb .two s) (tb .two r))
+      (sym (ap (λ (n : ℕ). eqb (row tb s) (n + tb .one r)) (z .base-is) ∙ row-test y (z .class) (tb .one r) (z .low) (z .fits)))
+
+  -- So an earlier record says the same exactly if the row that the records before this one left has the bit.
+  pub twice-bit : (rows : List ℕ) → Indexed tb r rows → ((s : ℕ) → s < r → Shows tb s) → twice tb r ≡ bit (getD rows (row tb r) 0) (tb .two r)
+  unfolding twice
+  twice-bit rows i f =
+      some-same r _ _ (λ s l. same-row s (f s l)) ∙ sym (i .holds (row tb r) (tb .two r) row-low (two-low shown-r))
+
+-- The record that is added to its row is the one that the next index holds besides.
+pub add-record : (tb : Table) (r : ℕ) (rows : List ℕ) (line : ℕ) → Indexed tb r rows → row tb r < length rows → tb .two r < 64
+    → ((j : ℕ) → bit line j ≡ (bit (getD rows (row tb r) 0) j || (eqb (tb .two r) j && ltb (tb .two r) 64)))
+    → Indexed tb (suc r) (set rows (row tb r) line)
+unfolding some
+add-record tb r rows line i h l e = record { holds = λ q y m n. go q y m n (eqb (row tb r) q) refl }
+  where
+    go : (q y : ℕ) → q < 768 → y < 64 → (b : Bool) → eqb (row tb r) q ≡ b
+        → bit (getD (set rows (row tb r) line) q 0) y ≡ some (suc r) (λ k. eqb (row tb k) q && eqb (tb .two k) y)
+    go q y m n true t =
+        let here : row tb r ≡ q = eqb-true (row tb r) q t in
+        let old = ap (λ (x : ℕ). bit (getD rows x 0) y) here ∙ i .holds q y m n in
+        ap (λ (x : ℕ). bit (getD (set rows (row tb r) line) x 0) y) (sym here)
+        ∙ ap (λ (x : ℕ). bit x y) (getD-set-same rows (row tb r) line 0 h)
+        ∙ e y
+        ∙ rw (old, t, lt-ltb (tb .two r) 64 l, mathlib.Core.Bool.and-true (eqb (tb .two r) y))
+    go q y m n false t =
+        ap (λ (x : ℕ). bit x y) (getD-set-other rows (row tb r) q line 0 (λ x. eqb-false (row tb r) q t (sym x)))
+        ∙ i .holds q y m n
+        ∙ rw t (sym (mathlib.Core.Bool.or-false _))
+
+-- Before the first record the index is empty.
+pub no-records : (tb : Table) (rows : List ℕ) → ((q : ℕ) → q < 768 → getD rows q 0 ≡ 0) → Indexed tb 0 rows
+unfolding some
+no-records tb rows f = record { holds = λ q y m n. ap (λ (x : ℕ). bit x y) (f q m) ∙ bit-zero y }
+
+-- THE BLOCKS AS THE SOURCE HAS THEM
+
+-- There is no block past kind 7, and but for the post arcs a block is that of its kind.
+pub block-out : (k s : ℕ) → 7 < k → block k s ≡ 0
+unfolding block
+block-out k s h = List·getD-eq-default (0 ∷ 0 ∷ 128 ∷ cond (eqb s 3) 320 192 ∷ 448 ∷ 512 ∷ 576 ∷ 704 ∷ []) 0 h
+
+pub block-plain : (k s : ℕ) → (k ≡ 3 → ⊥) → getD (0 ∷ 0 ∷ 128 ∷ 192 ∷ 448 ∷ 512 ∷ 576 ∷ 704 ∷ []) k 0 ≡ block k s
+unfolding block
+block-plain zero s h = refl
+block-plain (suc zero) s h = refl
+block-plain (suc (suc zero)) s h = refl
+block-plain (suc (suc (suc zero))) s h = absurd (h refl)
+block-plain (suc (suc (suc (suc k)))) s h = refl
+
+-- No block begins past 704.
+pub block-most : (k s : ℕ) → block k s ≤ 704
+unfolding block
+block-most zero s = omega arith
+block-most (suc zero) s = omega arith
+block-most (suc (suc zero)) s = omega arith
+block-most (suc (suc (suc zero))) s = go (eqb s 3)
+  where
+    go : (b : Bool) → cond b 320 192 ≤ 704
+    go true = omega arith
+    go false = omega arith
+block-most (suc (suc (suc (suc zero)))) s = omega arith
+block-most (suc (suc (suc (suc (suc zero))))) s = omega arith
+block-most (suc (suc (suc (suc (suc (suc zero)))))) s = omega arith
+block-most (suc (suc (suc (suc (suc (suc (suc zero))))))) s = omega arith
+block-most (suc (suc (suc (suc (suc (suc (suc (suc k)))))))) s = omega arith

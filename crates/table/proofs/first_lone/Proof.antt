@@ -1,0 +1,128 @@
+-- The loop keeps that no place before p is alone, and that `all` has the transitions of those places' arcs.
+use mathlib.Core.Bool.{false, not, _&&_}
+use mathlib.Core.Path.{_≡_, sym, ap, _∙_}
+use Prim.Native.Nat.{ℕ, _+_, _-_, _≤_, _<_}
+use native.Mathlib.Omega.{arith}
+use borrow.Author.Needs.{needs}
+use Rattle.meaning.specs.Bytes.{bit}
+use Rattle.meaning.specs.Below.{some}
+use Rattle.meaning.proofs.Below.{first-is, first-le}
+use Rattle.sets.proofs.Bits.{bit-zero}
+use Rattle.table.specs.Index.{has-transition, lone}
+use Rattle.table.proofs.Firsts.{none-yet, none-more, lone-place, more-arcs, lone-first, arc-bit}
+use Rattle.table.proofs.first_lone.Statement.{statement}
+use Rattle.table.proofs.first_lone.Tie as tie
+
+abbrev Inv-loop : tie.InvT-loop
+Inv-loop rows all₀ p₀ all p =
+    (p ≤ 128) × ((k : ℕ) → k < p → lone rows k ≡ false) × ((t : ℕ) → bit all t ≡ some p (λ p. arc-bit rows p t))
+
+abbrev μ-loop : tie.MeasureT-loop
+μ-loop rows all₀ p₀ all p = 128 - p
+
+loop-holds : tie.Need-loop-holds Inv-loop μ-loop
+unfolding some
+loop-holds c = (omega arith, none-yet _, bit-zero)
+
+add-union : tie.Need-add-union Inv-loop μ-loop
+add-union c = search needs
+
+mul-union : tie.Need-mul-union Inv-loop μ-loop
+mul-union c = search needs
+
+element-copy-out-union : tie.Need-element-copy-out-union Inv-loop μ-loop
+element-copy-out-union c = search needs
+
+add-union-2 : tie.Need-add-union-2 Inv-loop μ-loop
+add-union-2 c = search needs
+
+mul-union-2 : tie.Need-mul-union-2 Inv-loop μ-loop
+mul-union-2 c = search needs
+
+element-copy-out-union-2 : tie.Need-element-copy-out-union-2 Inv-loop μ-loop
+element-copy-out-union-2 c = search needs
+
+union-requires : tie.Need-union-requires Inv-loop μ-loop
+union-requires c κs = search needs
+
+mul-place-alone : tie.Need-mul-place-alone Inv-loop μ-loop
+mul-place-alone c = search needs
+
+element-copy-out-place-alone : tie.Need-element-copy-out-place-alone Inv-loop μ-loop
+element-copy-out-place-alone c = search needs
+
+place-alone-requires : tie.Need-place-alone-requires Inv-loop μ-loop
+place-alone-requires c κs = search needs
+
+-- The test of a place is that of the index.
+tested : (c : tie.After-place-alone Inv-loop μ-loop)
+    → c .place-alone .result ≡ lone (c .before .before .before .before .before .before .before .args .rows .now) (c .before .before .before .before .before .before .loop .p)
+tested c =
+    let arcs = c .before .before .union in
+    c .place-alone .ensures
+    ∙ lone-place _ (c .before .before .before .before .before .before .loop .p) (arcs .result) (c .before .before .before .before .before .loop-test .taken) (omega arith) (arcs .ensures)
+
+returns : tie.Need-returns Inv-loop μ-loop
+returns c =
+    let at = c .before .before .before .before .before .before .before .loop in
+    sym (first-is 192 _ (at .p) (omega arith) (sym (tested (c .before)) ∙ c .if1 .taken) (at .inv .1))
+
+union-requires-2 : tie.Need-union-requires-2 Inv-loop μ-loop
+union-requires-2 c κs = search needs
+
+add-p : tie.Need-add-p Inv-loop μ-loop
+add-p c = search needs
+
+loop-less : tie.Need-loop-less Inv-loop μ-loop
+loop-less c = search needs
+
+loop-again : tie.Need-loop-again Inv-loop μ-loop
+loop-again c =
+    let rows = c .before .before .before .before .before .before .before .before .before .args .rows .now in
+    let at = c .before .before .before .before .before .before .before .before .loop in
+    let arcs = c .before .before .before .before .union in (
+      omega arith,
+      none-more (at .p) _ (at .inv .1) (sym (tested (c .before .before)) ∙ c .before .if1 .left),
+      more-arcs rows (at .p) (at .all) (arcs .result) (c .union2 .result) (at .inv .2) (arcs .ensures) (c .union2 .ensures),
+    )
+
+first-transition-requires : tie.Need-first-transition-requires Inv-loop μ-loop
+first-transition-requires c κs = search needs
+
+add-result : tie.Need-add-result Inv-loop μ-loop
+add-result c =
+    let rows = c .before .before .before .args .rows .now in
+    let all = c .before .before .loop .all in
+    omega (arith, c .first-transition .ensures, first-le 64 (λ t. has-transition rows t && not (bit all t)))
+
+returns-2 : tie.Need-returns-2 Inv-loop μ-loop
+returns-2 c =
+    let at = c .before .before .loop in
+    ap (λ (n : ℕ). 128 + n) (c .first-transition .ensures)
+    ∙ lone-first _ (at .p) (at .all) (omega arith) (at .inv .1) (at .inv .2)
+
+pub first-lone-spec : {M : Type 1} → statement M
+first-lone-spec =
+    tie.close
+    (tie.spec
+    Inv-loop
+    μ-loop
+    loop-holds
+    add-union
+    mul-union
+    element-copy-out-union
+    add-union-2
+    mul-union-2
+    element-copy-out-union-2
+    union-requires
+    mul-place-alone
+    element-copy-out-place-alone
+    place-alone-requires
+    returns
+    union-requires-2
+    add-p
+    loop-less
+    loop-again
+    first-transition-requires
+    add-result
+    returns-2)

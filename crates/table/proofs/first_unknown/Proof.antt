@@ -1,0 +1,67 @@
+-- The loop keeps that no record before r names an unknown.
+use mathlib.Core.Bool.{false}
+use mathlib.Core.Path.{_≡_, refl, sym, _∙_}
+use Prim.Native.Nat.{ℕ, _-_, _≤_, _<_}
+use native.Mathlib.Omega.{arith}
+use borrow.Author.Needs.{needs}
+use Rattle.meaning.specs.Table.{table}
+use Rattle.meaning.proofs.Below.{first-is, first-none}
+use Rattle.table.specs.Index.{names-unknown-at}
+use Rattle.table.proofs.Firsts.{none-yet, none-more, named-at}
+use Rattle.table.proofs.first_unknown.Statement.{statement}
+use Rattle.table.proofs.first_unknown.Tie as tie
+
+abbrev Inv-loop : tie.InvT-loop
+Inv-loop t rows n r₀ r = (n ≡ table t .records) × (r ≤ n) × ((k : ℕ) → k < r → names-unknown-at (table t) rows k ≡ false)
+
+abbrev μ-loop : tie.MeasureT-loop
+μ-loop t rows n r₀ r = n - r
+
+loop-holds : tie.Need-loop-holds Inv-loop μ-loop
+unfolding table
+loop-holds c = (refl, omega arith, none-yet _)
+
+read-requires : tie.Need-read-requires Inv-loop μ-loop
+read-requires c κs = search needs
+
+unknown-requires : tie.Need-unknown-requires Inv-loop μ-loop
+unknown-requires c κs = search needs
+
+-- The test of the record that was read is that of the table's record.
+tested : (c : tie.After-unknown Inv-loop μ-loop)
+    → c .unknown .result ≡ names-unknown-at (table (c .before .before .before .before .before .args .t .now)) (c .before .before .before .before .before .args .rows .now) (c .before .before .before .loop .r)
+tested c = c .unknown .ensures ∙ named-at _ _ _ _ (c .before .read .ensures)
+
+returns : tie.Need-returns Inv-loop μ-loop
+returns c =
+    let at = c .before .before .before .before .loop in
+    sym (first-is _ _ (at .r) (omega arith) (sym (tested (c .before)) ∙ c .if1 .taken) (at .inv .2))
+
+add-r : tie.Need-add-r Inv-loop μ-loop
+add-r c = search needs
+
+loop-less : tie.Need-loop-less Inv-loop μ-loop
+loop-less c = search needs
+
+loop-again : tie.Need-loop-again Inv-loop μ-loop
+loop-again c =
+    let at = c .before .before .before .before .loop in
+    (at .inv .0, omega arith, none-more (at .r) _ (at .inv .2) (sym (tested (c .before)) ∙ c .if1 .left))
+
+returns-2 : tie.Need-returns-2 Inv-loop μ-loop
+returns-2 c = c .before .loop .inv .0 ∙ sym (first-none _ _ (λ k h. c .before .loop .inv .2 k (omega arith)))
+
+pub first-unknown-spec : {M : Type 1} → statement M
+first-unknown-spec =
+    tie.close
+    (tie.spec
+    Inv-loop
+    μ-loop
+    loop-holds
+    read-requires
+    unknown-requires
+    returns
+    add-r
+    loop-less
+    loop-again
+    returns-2)

@@ -1,0 +1,36 @@
+-- But for the post arcs a block is that of its kind, and past kind 7 there is none.
+use mathlib.Core.Path.{sym}
+use borrow.Author.Tests.{ne-eqb}
+use borrow.Author.Needs.{needs}
+use Rattle.table.specs.Index.{block}
+use Rattle.table.proofs.Rows.{block-out, block-plain}
+use Rattle.table.proofs.start.Statement.{statement}
+use Rattle.table.proofs.start.Tie as tie
+
+returns : tie.Need-returns
+returns c = sym (block-out _ _ (c .if1 .taken))
+
+returns-2 : tie.Need-returns-2
+unfolding block
+returns-2 c = rw (c .before .if2 .taken, c .if3 .taken)
+
+returns-3 : tie.Need-returns-3
+unfolding block
+returns-3 c = rw (c .before .if2 .taken, ne-eqb _ _ (c .if3 .left))
+
+wide-requires : tie.Need-wide-requires
+wide-requires c κs = search needs
+
+mul-result : tie.Need-mul-result
+mul-result c = search needs
+
+array-read-result : tie.Need-array-read-result
+array-read-result c = search needs
+
+returns-4 : tie.Need-returns-4
+returns-4 c = rw (c .wide .ensures) (block-plain _ _ (c .before .if2 .left))
+
+pub start-spec : {M : Type 1} → statement M
+start-spec =
+    tie.close
+    (tie.spec returns returns-2 returns-3 wide-requires mul-result array-read-result returns-4)

@@ -1,0 +1,66 @@
+-- The index: a row of 64 bits for each kind and byte 1, with input and post arcs apart; bit y of a row is a record with byte 2 at y.
+use mathlib.Core.Bool.{Bool, cond, not, _&&_, _||_}
+use mathlib.Core.List.{List, [], _∷_}
+use mathlib.Core.Path.{_≡_}
+use Prim.Native.Nat.{ℕ, _+_, _-_, _<_}
+use lib.Dec.{ltb, eqb}
+use lib.ListN.{getD}
+use Rattle.meaning.specs.Below.{some, first}
+use Rattle.meaning.specs.Bytes.{bit}
+use Rattle.meaning.specs.Table.{Table}
+use Rattle.meaning.specs.Defined.{fault, faulty}
+use Rattle.records.specs.declared.Rec.{Rec}
+use Rattle.table.specs.declared.Pass.{Pass}
+
+-- The first row of a kind's block.
+unfoldable pub block : ℕ → ℕ → ℕ
+block kind sort = getD (0 ∷ 0 ∷ 128 ∷ cond (eqb sort 3) 320 192 ∷ 448 ∷ 512 ∷ 576 ∷ 704 ∷ []) kind 0
+
+-- The row of record r of a table, and of a record by itself.
+unfoldable pub row : Table → ℕ → ℕ
+row tb r = block (tb .kind r) (tb .sort r) + tb .one r
+
+unfoldable pub row-of : Rec → ℕ
+row-of x = cond (ltb 7 (x .kind)) 0 (block (x .kind) (x .sort) + x .one)
+
+-- The rows hold the first n records and nothing else.
+pub record Indexed (tb : Table) (n : ℕ) (rows : List ℕ) : Type 0 where
+  pub holds : (q y : ℕ) → q < 768 → y < 64 → bit (getD rows q 0) y ≡ some n (λ r. eqb (row tb r) q && eqb (tb .two r) y)
+
+-- What the pass leaves: the place of the first record that meets 2, 3 or 4, its number, and the records before it in the rows.
+pub record Scanned (tb : Table) (s : Pass) : Type 0 where
+  pub at : s .at ≡ first (tb .records) (faulty tb)
+  pub number : s .number ≡ cond (ltb (s .at) (tb .records)) (fault tb (s .at)) 0
+  pub rows : Indexed tb (s .at) (s .rows)
+
+-- The index has place p; transition t.
+abbrev pub has-place : List ℕ → ℕ → Bool
+has-place rows p = bit (getD rows p 0) 0
+
+abbrev pub has-transition : List ℕ → ℕ → Bool
+has-transition rows t = bit (getD rows (128 + t) 0) 0
+
+-- A record with this kind and these bytes 1 and 2 names a place or a transition that the index does not have.
+unfoldable pub unknown-test : List ℕ → ℕ → ℕ → ℕ → Bool
+unknown-test rows kind one two =
+    ((eqb kind 3 || eqb kind 6) && not (has-place rows one))
+    || ((eqb kind 4 || eqb kind 5 || eqb kind 7) && not (has-transition rows one))
+    || ((eqb kind 3 || eqb kind 5) && not (has-transition rows two))
+
+-- So of a record by itself, and of record k of a table.
+unfoldable pub names-unknown : List ℕ → Rec → Bool
+names-unknown rows x = unknown-test rows (x .kind) (x .one) (x .two)
+
+unfoldable pub names-unknown-at : Table → List ℕ → ℕ → Bool
+names-unknown-at tb rows k = unknown-test rows (tb .kind k) (tb .one k) (tb .two k)
+
+-- 6: candidate 0, the index has no place; candidate 1, it has no transition.
+unfoldable pub none-of : List ℕ → ℕ → Bool
+none-of rows k = cond (eqb k 0) (not (some 128 (has-place rows))) (not (some 64 (has-transition rows)))
+
+-- 7: the place or transition is in the index, and no arc stands at it.
+unfoldable pub lone : List ℕ → ℕ → Bool
+lone rows k =
+    cond (ltb k 128)
+    (has-place rows k && not (some 64 (λ t. bit (getD rows (192 + k) 0) t || bit (getD rows (320 + k) 0) t)))
+    (has-transition rows (k - 128) && not (some 128 (λ p. bit (getD rows (192 + p) 0) (k - 128) || bit (getD rows (320 + p) 0) (k - 128))))

@@ -1,0 +1,2 @@
+-- What the pass over a table's records leaves, and what its index tells.
+pub mod Index
