@@ -1,0 +1,190 @@
+-- What each stage of `judge` finds is what the meaning's check finds: the rows say what the table says, so the first of the one is the first of
+-- the other.
+use mathlib.Core.Bool.{Bool, true, false, not, _&&_}
+use mathlib.Core.List.{List}
+use mathlib.Core.Logic.{_≢_, inl, inr}
+use mathlib.Core.Path.{_≡_, sym, ap, _∙_}
+use Prim.Native.Nat.{ℕ, _≤_, _<_}
+use native.Mathlib.Omega.{arith}
+use lib.Dec.{ltb}
+use lib.ListN.{getD}
+use borrow.Author.Tests.{lt-ltb, le-ltb, not-true, eqb-false}
+use Rattle.meaning.specs.Below.{first}
+use Rattle.meaning.specs.Bytes.{bit}
+use Rattle.meaning.specs.Table.{table, transition}
+use Rattle.meaning.specs.Answer.{refused}
+use Rattle.meaning.specs.Priority.{above}
+use Rattle.meaning.specs.Says.{Shown, Same}
+use Rattle.meaning.specs.Defined.{bad-length, fault, faulty, same, twice, unknown, empty, isolated, circle, conflict, settled, unsettled, clashes, check}
+use Rattle.meaning.proofs.Bool.{and-left, and-right}
+use Rattle.meaning.proofs.Below.{first-le, first-passes, first-before, first-same, first-none, none-elim}
+use Rattle.meaning.proofs.Reflect.{refutes}
+use Rattle.meaning.proofs.Walk.{compared}
+use Rattle.meaning.proofs.Shows.{Shows, nonzero}
+use Rattle.meaning.proofs.Same.{of-kind, shown-arc, shown-priority, same-decides}
+use Rattle.meaning.proofs.Faults.{faultless}
+use Rattle.meaning.proofs.Rows.{transition-decides, conflict-decides}
+use Rattle.meaning.proofs.Tables.{arc-transition}
+use Rattle.table.specs.declared.Pass.{Pass}
+use Rattle.table.specs.Index.{Scanned, names-unknown-at, none-of, lone}
+use Rattle.table.proofs.Carry.{Clean, clean-of, unknown-same, none-same, lone-same, written-bit}
+use Rattle.net.specs.Rows.{Weights, Sorts}
+use Rattle.net.proofs.Carry.{conflict-bit, complementary-bits, inhibits-same}
+use Rattle.priority.specs.Closed.{Closed}
+use Rattle.priority.proofs.Carry.{above-bit, circle-same}
+use Rattle.pairs.specs.Settled.{loose}
+use Rattle.pairs.proofs.Carry.{Say, least-pair, no-pair}
+use Rattle.engine.specs.declared.Judged.{Judged}
+use Rattle.engine.specs.Said.{Judges, Least}
+use Rattle.engine.proofs.Stages.{answer-2, answer-5, answer-6, answer-7, answer-8, answer-9, answer-0}
+
+-- What a shown arc weighs, and the ranges of a shown condition.
+shown-weight : {o t s f x : ℕ} → Shown 3 o t s f x → 1 ≤ f
+shown-weight (Shown.arc a b c d e) = d
+
+shown-wanted : {o t s f x : ℕ} → Shown 4 o t s f x → (o ≤ 63) × (t ≤ 63) × (s ≤ 1)
+shown-wanted (Shown.condition a b c) = (a, b, c)
+
+-- A refusal says nothing of the rows.
+pub refusal : (bs : List ℕ) (j : Judged) → 0 < j .number → refused (j .number) (j .at) ≡ check bs → Judges bs j
+refusal bs j l e = record { answer = e; index = λ z. absurd (omega arith); higher = λ z. absurd (omega arith) }
+
+-- A search that stays below its end and one that reaches it.
+reached : (n : ℕ) (p : ℕ → Bool) {k : ℕ} → k ≡ first n p → n ≤ k → first n p ≡ n
+reached n p e l = omega (arith, first-le n p)
+
+module _ (bs : List ℕ) (right : bad-length bs ≡ false) (s : Pass) (scanned : Scanned (table bs) s) where
+  -- 2, 3 or 4 at the first record that meets one.
+  pub verdict-2 : s .at < table bs .records → (0 < s .number) × (refused (s .number) (s .at) ≡ check bs)
+  unfolding faulty
+  verdict-2 l =
+      let number : s .number ≡ fault (table bs) (s .at) = rw (lt-ltb (s .at) (table bs .records) l) at (scanned .number) in
+      let below : first (table bs .records) (faulty (table bs)) < table bs .records = rw (sym (scanned .at)) l in
+      let bad = not-true _ (first-passes (table bs .records) (faulty (table bs)) below) in
+      let some-fault : fault (table bs) (s .at) ≢ 0 = rw (scanned .at) (eqb-false _ 0 bad) in
+      (rw number (nonzero (fault (table bs) (s .at)) some-fault), rw number (rw (scanned .at) (sym (answer-2 bs right below))))
+
+  -- The pass came to the end: no record has a fault, and the index holds them all.
+  module _ (whole : table bs .records ≤ s .at) where
+    no-fault : first (table bs .records) (faulty (table bs)) ≡ table bs .records
+    no-fault = reached (table bs .records) (faulty (table bs)) (scanned .at) whole
+
+    pub clean : Clean (table bs) (s .rows)
+    clean = clean-of (table bs) s scanned (scanned .number ∙ rw (le-ltb (s .at) (table bs .records) whole))
+
+    -- What a record without a fault shows.
+    sound : (r : ℕ) → r < table bs .records → Shows (table bs) r × (twice (table bs) r ≡ false)
+    sound r h = faultless (table bs) r (first-before (table bs .records) (faulty (table bs)) r (omega (arith, no-fault)))
+
+    unknowns : first (table bs .records) (names-unknown-at (table bs) (s .rows)) ≡ first (table bs .records) (unknown (table bs))
+    unknowns = first-same (table bs .records) _ _ (unknown-same clean)
+
+    pub verdict-5 : (u : ℕ) → u ≡ first (table bs .records) (names-unknown-at (table bs) (s .rows)) → u < table bs .records
+        → refused 5 u ≡ check bs
+    verdict-5 u e l =
+        let same = e ∙ unknowns in
+        ap (refused 5) same ∙ sym (answer-5 bs right no-fault (omega arith))
+
+    module _ (u : ℕ) (eu : u ≡ first (table bs .records) (names-unknown-at (table bs) (s .rows))) (pu : table bs .records ≤ u) where
+      all-known : first (table bs .records) (unknown (table bs)) ≡ table bs .records
+      all-known = reached (table bs .records) (unknown (table bs)) (eu ∙ unknowns) pu
+
+      pub verdict-6 : (k : ℕ) → k ≡ first 2 (none-of (s .rows)) → k < 2 → refused 6 k ≡ check bs
+      verdict-6 k e l =
+          let same = e ∙ first-same 2 _ _ (none-same clean) in
+          ap (refused 6) same ∙ sym (answer-6 bs right no-fault all-known (omega arith))
+
+      module _ (k : ℕ) (ek : k ≡ first 2 (none-of (s .rows))) (pk : 2 ≤ k) where
+        not-empty : first 2 (empty (table bs)) ≡ 2
+        not-empty = reached 2 (empty (table bs)) (ek ∙ first-same 2 _ _ (none-same clean)) pk
+
+        pub verdict-7 : (l : ℕ) → l ≡ first 192 (lone (s .rows)) → l < 192 → refused 7 l ≡ check bs
+        verdict-7 l e h =
+            let same = e ∙ first-same 192 _ _ (lone-same clean) in
+            ap (refused 7) same ∙ sym (answer-7 bs right no-fault all-known not-empty (omega arith))
+
+        module _ (l : ℕ) (el : l ≡ first 192 (lone (s .rows))) (pl : 192 ≤ l) (higher : List ℕ) (closed : Closed (s .rows) higher) where
+          none-lone : first 192 (isolated (table bs)) ≡ 192
+          none-lone = reached 192 (isolated (table bs)) (el ∙ first-same 192 _ _ (lone-same clean)) pl
+
+          low : (r : ℕ) → r < table bs .records → table bs .kind r ≡ 5 → (table bs .one r < 64) × (table bs .two r < 64)
+          low r h e =
+              let shown = shown-priority (of-kind (table bs) r 5 (sound r h .0) e) in
+              (omega (arith, shown .0), omega (arith, shown .1))
+
+          pub above-is : (i j : ℕ) → i < 64 → j < 64 → bit (getD higher i 0) j ≡ above (table bs) i j
+          above-is = above-bit (table bs) (s .rows) (written-bit clean) low closed
+
+          circles : first 64 (λ t. bit (getD higher t 0) t) ≡ first 64 (circle (table bs))
+          circles = circle-same (table bs) (s .rows) (written-bit clean) low closed
+
+          pub verdict-8 : (o : ℕ) → o ≡ first 64 (λ t. bit (getD higher t 0) t) → o < 64 → refused 8 o ≡ check bs
+          verdict-8 o e h =
+              let same = e ∙ circles in
+              ap (refused 8) same ∙ sym (answer-8 bs right no-fault all-known not-empty none-lone (omega arith))
+
+          module _ (o : ℕ) (eo : o ≡ first 64 (λ t. bit (getD higher t 0) t)) (po : 64 ≤ o) (w so : List (List ℕ)) (weights : Weights (table bs) w)
+              (sorts : Sorts (table bs) so) (q : ℕ) (least : Least (table bs) higher w so q) where
+            no-circle : first 64 (circle (table bs)) ≡ 64
+            no-circle = reached 64 (circle (table bs)) (eo ∙ circles) po
+
+            -- Two input arcs between one place and one transition are one record.
+            single : (r p : ℕ) → r < table bs .records → p < table bs .records → table bs .kind r ≡ 3 → table bs .kind p ≡ 3
+                → table bs .sort r < 3 → table bs .sort p < 3 → table bs .one r ≡ table bs .one p → table bs .two r ≡ table bs .two p → r ≡ p
+            unfolding twice
+            single r p hr hp kr kp sr sp e f =
+                elim (compared r p) [
+                  | inl m ↦ absurd (again r p m hr hp kr kp sr sp e f)
+                  | inr (inl m) ↦ m
+                  | inr (inr m) ↦ absurd (again p r m hp hr kp kr sp sr (sym e) (sym f))
+                ]
+              where
+                again : (r p : ℕ) → r < p → r < table bs .records → p < table bs .records → table bs .kind r ≡ 3 → table bs .kind p ≡ 3
+                    → table bs .sort r < 3 → table bs .sort p < 3 → table bs .one r ≡ table bs .one p → table bs .two r ≡ table bs .two p → ⊥
+                again r p m hr hp kr kp sr sp e f =
+                    refutes (same-decides (table bs) r p (sound r hr .0) (sound p hp .0))
+                    (none-elim p (same (table bs) p) (sound p hp .1) r m)
+                    (Same.input-arc kr kp (omega arith) (omega arith) e f)
+
+            arcs : (r : ℕ) → r < table bs .records → table bs .kind r ≡ 3
+                → (table bs .one r < 128) × (table bs .two r < 64) × (1 ≤ table bs .four r) × (table bs .sort r ≤ 3)
+            arcs r h e =
+                let shown = of-kind (table bs) r 3 (sound r h .0) e in
+                let range = shown-arc shown in
+                (omega (arith, range .0), omega (arith, range .1), shown-weight shown, range .2)
+
+            say : Say (table bs) (least .conflicts) higher (least .truths) (least .falses) w so
+            say =
+                record {
+                  conflicting = conflict-bit (table bs) (least .takers) (least .conflicts) (least .takers-hold) (least .conflicts-hold)
+                      (λ r h e. (arcs r h e .0, arcs r h e .1));
+                  higher = above-is;
+                  contrary = complementary-bits (table bs) (least .truths) (least .falses) (least .truths-hold) (least .falses-hold) conditions;
+                  stopping = inhibits-same (table bs) w so weights sorts arcs single;
+                }
+              where
+                conditions : (r : ℕ) → r < table bs .records → table bs .kind r ≡ 4
+                    → (table bs .one r < 64) × (table bs .two r < 64) × (table bs .sort r ≤ 1)
+                conditions r h e =
+                    let range = shown-wanted (of-kind (table bs) r 4 (sound r h .0) e) in
+                    (omega (arith, range .0), omega (arith, range .1), range .2)
+
+            -- An unsettled pair is a pair of the table's transitions.
+            declared : (i j : ℕ) → i < 64 → j < 64 → unsettled (table bs) i j ≡ true → transition (table bs) i ≡ true
+            unfolding unsettled
+            declared i j hi hj e =
+                let clash = conflict-decides (table bs) i j .0
+                (and-left (conflict (table bs) i j) (not (settled (table bs) i j)) (and-right (ltb i j) (conflict (table bs) i j && not (settled (table bs) i j)) e)) in
+                transition-decides (table bs) i .1
+                (arc-transition (table bs) (λ r h. first-before (table bs .records) (unknown (table bs)) r (omega (arith, all-known))) (clash .3))
+
+            pub verdict-9 : q < 4096 → refused 9 q ≡ check bs
+            verdict-9 h =
+                let found = least-pair (table bs) (least .conflicts) higher (least .truths) (least .falses) w so say declared (rw (sym (least .least)) h) in
+                ap (refused 9) (least .least ∙ found .1) ∙ sym (answer-9 bs right no-fault all-known not-empty none-lone no-circle (found .0))
+
+            pub verdict-0 : 4096 ≤ q → refused 0 0 ≡ check bs
+            verdict-0 h =
+                let none = no-pair (table bs) (least .conflicts) higher (least .truths) (least .falses) w so say
+                (reached 4096 (loose (least .conflicts) higher (least .truths) (least .falses) w so) (least .least) h) in
+                sym (answer-0 bs right no-fault all-known not-empty none-lone no-circle (first-none 64 (clashes (table bs)) none))

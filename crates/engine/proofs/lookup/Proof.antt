@@ -1,0 +1,66 @@
+-- `engine::lookup` meets its contract: each return is one of the two cases of the definition.
+use mathlib.Core.Logic.{inl, inr}
+use mathlib.Core.Path.{_≡_, sym, ap, _∙_}
+use Prim.Native.Nat.{ℕ, _+_, _-_, _*_, _≤_}
+use native.Mathlib.Omega.{arith}
+use lib.ListN.{length, take, drop}
+use Rattle.meaning.proofs.Outcomes.{lookup-whole, lookup-none}
+use Rattle.meaning.proofs.Shows.{nonzero}
+use borrow.Author.Needs.{needs}
+use Rattle.engine.proofs.lookup.Statement.{statement}
+use Rattle.engine.proofs.lookup.Tie as tie
+
+slice-aggregate-result : tie.Need-slice-aggregate-result
+slice-aggregate-result c = search needs
+
+returns : tie.Need-returns
+returns c = record { part-is = sym (lookup-none _ _ (inl (omega (arith, c .before .if1 .taken)))) }
+
+sub-from : tie.Need-sub-from
+sub-from c = search needs
+
+mul-from : tie.Need-mul-from
+mul-from c = search needs
+
+add-to : tie.Need-add-to
+add-to c = search needs
+
+sub-result : tie.Need-sub-result
+sub-result c = search needs
+
+part-result-start : tie.Need-part-result-start
+part-result-start c = search needs
+
+part-result-end : tie.Need-part-result-end
+part-result-end c = search needs
+
+returns-2 : tie.Need-returns-2
+returns-2 c =
+    let cycle = c .before .before .before .args .cycle in
+    let report = c .before .before .before .args .report .now in
+    let width : 24 * (cycle - 1) + 24 - 24 * (cycle - 1) ≡ 24 = omega arith in
+    let some-cycle : 1 ≤ cycle = nonzero cycle (c .before .before .if1 .left) in
+    let room : 24 * cycle ≤ length report = omega (arith, c .before .if2 .taken) in
+    record { part-is = ap (λ (n : ℕ). take n (drop (24 * (cycle - 1)) report)) width ∙ sym (lookup-whole report cycle some-cycle room .0) }
+
+slice-aggregate-result-2 : tie.Need-slice-aggregate-result-2
+slice-aggregate-result-2 c = search needs
+
+returns-3 : tie.Need-returns-3
+returns-3 c = record { part-is = sym (lookup-none _ _ (inr (omega (arith, c .before .if2 .left)))) }
+
+pub lookup-spec : {M : Type 1} → statement M
+lookup-spec =
+    tie.close
+    (tie.spec
+    slice-aggregate-result
+    returns
+    sub-from
+    mul-from
+    add-to
+    sub-result
+    part-result-start
+    part-result-end
+    returns-2
+    slice-aggregate-result-2
+    returns-3)

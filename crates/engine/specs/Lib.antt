@@ -1,0 +1,2 @@
+-- What the engine's calls and their parts say.
+pub mod Said

@@ -1,0 +1,227 @@
+// The engine's calls over lent bytes: check, start, lookup. Each call has its answer table in docs/ANSWERS.md.
+use records::Rec;
+ghost use mathlib.Core.Bool.{false};
+ghost use mathlib.Core.Path.{_≡_};
+ghost use Prim.Native.Nat.{_+_, _/_, _%_, _≤_};
+ghost use lib.ListN.{length, set, replicate};
+ghost use Rattle.meaning.specs.Answer.{accepted};
+ghost use Rattle.meaning.specs.Table.{table};
+ghost use Rattle.meaning.specs.Defined.{bad-length, check};
+ghost use Rattle.meaning.specs.Image.{image-bytes, fresh};
+ghost use Rattle.meaning.specs.Promise.{Checked, Started, Looked-up};
+ghost use Rattle.net.specs.Rows.{Weights, Sorts};
+ghost use Rattle.engine.specs.Said.{said, Judges, Least, put-of};
+
+// An answer: its number (0 accepted), the page's where, the cycles done.
+pub struct Answer {
+    pub number: usize,
+    pub at: usize,
+    pub cycles: usize,
+}
+
+// A table's answer from 2 on, and what the stages found on the way: the index of its records and the closed priority.
+struct Judged {
+    number: usize,
+    at: usize,
+    rows: [u64; 768],
+    above: [u64; 64],
+}
+
+// The least pair in conflict that nothing settles, 64i + j, or 4096.
+fn least_pair(t: &[u8], above: &[u64; 64], w: &[[u16; 64]; 128], s: &[[u8; 64]; 128]) -> usize
+    ensures { λ k. ⌜ Least (table (now (t .entry))) (now (above .entry)) (now (w .entry)) (now (s .entry)) k ⌝ }
+{
+    let takers = net::gather(t, 3, 0);
+    let conflicts = net::conflicts(t, &takers);
+    let truths = net::gather(t, 4, 0);
+    let falses = net::gather(t, 4, 1);
+    pairs::clash(&conflicts, above, &truths, &falses, w, s)
+}
+
+// Answers 2 to 9 of a table whose length is right, one stage after the other.
+fn judge(t: &[u8], w: &[[u16; 64]; 128], s: &[[u8; 64]; 128]) -> Judged
+    requires { ⌜ bad-length (now t) ≡ false ⌝ }
+    requires { ⌜ Weights (table (now t)) (now w) ⌝ }
+    requires { ⌜ Sorts (table (now t)) (now s) ⌝ }
+    ensures { λ j. ⌜ Judges (now (t .entry)) j ⌝ }
+{
+    let n = t.len() / 8;
+    let pass = table::scan(t);
+    let number = pass.number;
+    let at = pass.at;
+    let rows = pass.rows;
+    let none = [0u64; 64];
+    if at < n {
+        return Judged {
+            number: records::wide(number),
+            at,
+            rows,
+            above: none,
+        };
+    }
+    let unknown = table::first_unknown(t, &rows);
+    if unknown < n {
+        return Judged {
+            number: 5,
+            at: unknown,
+            rows,
+            above: none,
+        };
+    }
+    let missing = table::first_none(&rows);
+    if missing < 2 {
+        return Judged {
+            number: 6,
+            at: missing,
+            rows,
+            above: none,
+        };
+    }
+    let lone = table::first_lone(&rows);
+    if lone < 192 {
+        return Judged {
+            number: 7,
+            at: lone,
+            rows,
+            above: none,
+        };
+    }
+    let above = priority::close(&rows);
+    let circle = priority::circle(&above);
+    if circle < 64 {
+        return Judged {
+            number: 8,
+            at: circle,
+            rows,
+            above,
+        };
+    }
+    let pair = least_pair(t, &above, w, s);
+    if pair < 4096 {
+        return Judged {
+            number: 9,
+            at: pair,
+            rows,
+            above,
+        };
+    }
+    Judged {
+        number: 0,
+        at: 0,
+        rows,
+        above,
+    }
+}
+
+// check: answers 1 to 9 in the page's order, or accepted.
+pub fn check(t: &[u8]) -> Answer
+    ensures { λ a. ⌜ Checked (now (t .entry)) (said a) ⌝ }
+{
+    if t.len() % 8 != 0 {
+        return Answer {
+            number: 1,
+            at: 0,
+            cycles: 0,
+        };
+    }
+    if 8192 < t.len() {
+        return Answer {
+            number: 1,
+            at: 0,
+            cycles: 0,
+        };
+    }
+    let w = net::weights(t);
+    let s = net::sorts(t);
+    let j = judge(t, &w, &s);
+    Answer {
+        number: j.number,
+        at: j.at,
+        cycles: 0,
+    }
+}
+
+// Every byte 0.
+fn clear(image: &mut [u8])
+    ensures { λ _. ⌜ now (image .exit) ≡ replicate (length (now (image .entry))) 0 ⌝ }
+{
+    let mut i = 0;
+    while i < image.len() {
+        image[i] = 0;
+        i += 1;
+    }
+}
+
+// The two bytes of a number, the lower first, at a place of the image.
+fn store(image: &mut [u8], at: usize, x: u16)
+    requires { ⌜ at + 2 ≤ length (now image) ⌝ }
+    ensures { λ _. ⌜ now (image .exit) ≡ set (set (now (image .entry)) at (x % 256)) (at + 1) (x / 256) ⌝ }
+{
+    image[at] = (x % 256) as u8;
+    image[at + 1] = (x / 256) as u8;
+}
+
+// The first tokens of a place, where the record declares one.
+fn put(image: &mut [u8], x: Rec)
+    requires { ⌜ length (now image) ≡ 768 ⌝ }
+    ensures { λ _. ⌜ now (image .exit) ≡ put-of (now (image .entry)) x ⌝ }
+{
+    if x.kind != 1 {
+        return;
+    }
+    let p = records::wide(x.one);
+    if 128 <= p {
+        return;
+    }
+    store(image, 4 * p, x.four);
+}
+
+// The image of a fresh net: first tokens, counters 0 and no reset orders.
+fn write_fresh(t: &[u8], image: &mut [u8])
+    requires { ⌜ (length (now image) ≡ 768) × (check (now t) ≡ accepted 0) ⌝ }
+    ensures { λ _. ⌜ now (image .exit) ≡ image-bytes (fresh (table (now (t .entry)))) ⌝ }
+{
+    clear(image);
+    let n = t.len() / 8;
+    let mut r = 0;
+    while r < n {
+        let x = records::read(t, r);
+        put(image, x);
+        r += 1;
+    }
+}
+
+// start: answers 1 to 9, then 12 for an image that is not 768 bytes; accepted, the image is that of the fresh net. A refusal writes nothing.
+pub fn start(t: &[u8], image: &mut [u8]) -> Answer
+    ensures { λ a. ⌜ Started (now (t .entry)) (now (image .entry)) (said a) (now (image .exit)) ⌝ }
+{
+    let a = check(t);
+    if a.number != 0 {
+        return a;
+    }
+    if image.len() != 768 {
+        return Answer {
+            number: 12,
+            at: 0,
+            cycles: 0,
+        };
+    }
+    write_fresh(t, image);
+    a
+}
+
+// The 24 bytes of one cycle, counted from 1, as that part of the report; an empty part for 0 and for a cycle that the report does not hold
+// whole.
+pub fn lookup(report: &[u8], cycle: usize) -> &[u8]
+    ensures { λ r. ⌜ Looked-up (now (report .entry)) cycle (now r) ⌝ }
+{
+    if cycle == 0 {
+        return &report[..0];
+    }
+    if cycle <= report.len() / 24 {
+        let from = 24 * (cycle - 1);
+        let to = from + 24;
+        return &report[from..to];
+    }
+    &report[..0]
+}
