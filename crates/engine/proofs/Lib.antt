@@ -4,3 +4,4 @@ pub mod Fresh
 pub mod Stages
 pub mod Verdict
 pub mod Starts
+pub mod Wrong
