@@ -1,4 +1,4 @@
--- The laws of the engine's images.
+-- The laws of the engine: its images, its stages, what start leaves, and the wrong engines that its statements refuse.
 pub mod Stored
 pub mod Fresh
 pub mod Stages
