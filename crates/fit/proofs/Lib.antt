@@ -1,0 +1,3 @@
+-- What the proofs of the functions share, and the laws that carry the tests to the meaning.
+pub mod Firsts
+pub mod Carry

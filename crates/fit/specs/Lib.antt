@@ -1,0 +1,2 @@
+-- When a record of a state image does not fit.
+pub mod Fit

@@ -1,0 +1,71 @@
+-- Reading an image: a record's columns are four bytes, wherever the bytes end, and what is read so far stands in the arrays.
+use mathlib.Core.Bool.{Bool, true, false, _&&_, _||_}
+use mathlib.Core.List.{List}
+use mathlib.Core.Path.{_≡_, refl, sym, ap, ap₂, _∙_}
+use Prim.Native.Nat.{ℕ, _+_, _*_, _≤_, _<_}
+use native.Mathlib.Nat.{not-suc-le-zero, add-zero}
+use native.Mathlib.Omega.{arith}
+use lib.Dec.{eqb, ltb}
+use lib.ListN.{length, getD, set}
+use lib.Seq.{getD-set-same, getD-set-other}
+use borrow.Author.Count.{below-more}
+use borrow.Author.Tests.{eq-eqb, ne-eqb, lt-ltb}
+use Rattle.meaning.specs.Bytes.{bit}
+use Rattle.meaning.specs.Image.{image, state}
+use Rattle.meaning.proofs.Bytes.{cut-read}
+use Rattle.sets.proofs.Bits.{bit-zero}
+use Rattle.image.specs.Held.{Lists}
+
+-- The number and the third byte of a record.
+pub number-at : (bs : List ℕ) (k : ℕ) → k < 192 → image bs .number k ≡ getD bs (4 * k) 0 + 256 * getD bs (4 * k + 1) 0
+unfolding image
+number-at bs k h =
+    ap₂ (λ (a b : ℕ). a + 256 * b) (cut-read 4 192 k 0 bs h (omega arith) ∙ ap (λ (i : ℕ). getD bs i 0) (add-zero (4 * k)))
+    (cut-read 4 192 k 1 bs h (omega arith))
+
+pub third-at : (bs : List ℕ) (k : ℕ) → k < 192 → image bs .third k ≡ getD bs (4 * k + 2) 0
+unfolding image
+third-at bs k h = cut-read 4 192 k 2 bs h (omega arith)
+
+-- A transition has a reset order exactly if its third byte is 1.
+pub order-at : (bs : List ℕ) (t : ℕ) → t < 64 → state (image bs) .order t ≡ eqb (getD bs (4 * (128 + t) + 2) 0) 1
+unfolding state
+order-at bs t h = ap (λ (x : ℕ). eqb x 1) (third-at bs (128 + t) (omega arith))
+
+-- The numbers read so far: none, and one more.
+pub lists-none : (f : ℕ → ℕ) (xs : List ℕ) → Lists 0 f xs
+lists-none f xs = record { same = λ i h. absurd (not-suc-le-zero h); small = λ i h. absurd (not-suc-le-zero h) }
+
+pub lists-more : (i : ℕ) (f : ℕ → ℕ) (xs : List ℕ) (x : ℕ) → Lists i f xs → i < length xs → x ≡ f i → x ≤ 65535 → Lists (i + 1) f (set xs i x)
+lists-more i f xs x l h e s =
+    let other : (j : ℕ) → j < i → getD (set xs i x) j 0 ≡ getD xs j 0 = λ j a. getD-set-other xs i j x 0 (λ q. omega arith) in
+    let here : getD (set xs i x) i 0 ≡ x = getD-set-same xs i x 0 h in
+    record {
+      same = below-more _ i (λ j a. other j a ∙ l .same j a) (here ∙ e);
+      small = below-more _ i (λ j a. rw (other j a) (l .small j a)) (rw here s);
+    }
+
+-- Of the first t numbers a set has those that pass f, and it has no others.
+pub record Marked (t : ℕ) (f : ℕ → Bool) (s : ℕ) : Type 0 where
+  pub below : (j : ℕ) → j < t → bit s j ≡ f j
+  pub above : (j : ℕ) → t ≤ j → bit s j ≡ false
+
+pub marked-none : (f : ℕ → Bool) → Marked 0 f 0
+marked-none f = record { below = λ j h. absurd (not-suc-le-zero h); above = λ j h. bit-zero j }
+
+pub marked-same : (t : ℕ) (f : ℕ → Bool) (s : ℕ) → Marked t f s → f t ≡ false → Marked (t + 1) f s
+marked-same t f s m e =
+    record { below = below-more _ t (m .below) (m .above t (omega arith) ∙ sym e); above = λ j h. m .above j (omega arith) }
+
+pub marked-more : (t : ℕ) (f : ℕ → Bool) (s r : ℕ) → Marked t f s → f t ≡ true → t < 64
+    → ((j : ℕ) → bit r j ≡ (bit s j || (eqb t j && ltb t 64))) → Marked (t + 1) f r
+marked-more t f s r m e h says =
+    record {
+      below = below-more _ t (λ j l. says j ∙ rw (ne-eqb t j (λ q. omega arith), m .below j l) (or-nothing (f j)))
+          (says t ∙ rw (m .above t (omega arith), eq-eqb t t refl, lt-ltb t 64 h) (sym e));
+      above = λ j l. says j ∙ rw (ne-eqb t j (λ q. omega arith), m .above j (omega arith));
+    }
+  where
+    or-nothing : (b : Bool) → (b || false) ≡ b
+    or-nothing true = refl
+    or-nothing false = refl

@@ -1,0 +1,60 @@
+-- `store` meets its contract: four stores within the image are one record.
+use native.Mathlib.Omega.{arith}
+use lib.ListN.{length-set}
+use Rattle.image.proofs.Write.{stored-is}
+use borrow.Author.Needs.{needs}
+use Rattle.image.proofs.store.Statement.{statement}
+use Rattle.image.proofs.store.Tie as tie
+
+mul-at : tie.Need-mul-at
+mul-at c = search needs
+
+cast-bytes : tie.Need-cast-bytes
+cast-bytes c = search needs
+
+slice-write-bytes : tie.Need-slice-write-bytes
+slice-write-bytes c = search needs
+
+cast-bytes-2 : tie.Need-cast-bytes-2
+cast-bytes-2 c = search needs
+
+add-bytes : tie.Need-add-bytes
+add-bytes c = search needs
+
+slice-write-bytes-2 : tie.Need-slice-write-bytes-2
+slice-write-bytes-2 c = simp length-set (omega arith)
+
+add-bytes-2 : tie.Need-add-bytes-2
+add-bytes-2 c = search needs
+
+slice-write-bytes-3 : tie.Need-slice-write-bytes-3
+slice-write-bytes-3 c = simp length-set (omega arith)
+
+add-bytes-3 : tie.Need-add-bytes-3
+add-bytes-3 c = search needs
+
+slice-write-bytes-4 : tie.Need-slice-write-bytes-4
+slice-write-bytes-4 c = simp length-set (omega arith)
+
+same-length : tie.Need-same-length
+same-length c = search needs
+
+returns : tie.Need-returns
+returns c = stored-is _ _ _ _ (c .pre)
+
+pub store-spec : {M : Type 1} → statement M
+store-spec =
+    tie.close
+    (tie.spec
+    mul-at
+    cast-bytes
+    slice-write-bytes
+    cast-bytes-2
+    add-bytes
+    slice-write-bytes-2
+    add-bytes-2
+    slice-write-bytes-3
+    add-bytes-3
+    slice-write-bytes-4
+    same-length
+    returns)

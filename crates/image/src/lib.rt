@@ -1,0 +1,129 @@
+// A state image read into arrays, and written from them.
+ghost use mathlib.Core.Bool.{cond};
+ghost use mathlib.Core.Path.{_≡_};
+ghost use Prim.Native.Nat.{ℕ, _≤_, _<_};
+ghost use lib.ListN.{length, getD};
+ghost use Rattle.meaning.specs.Bytes.{bit};
+ghost use Rattle.meaning.specs.Image.{image, state, image-bytes};
+ghost use Rattle.image.specs.Held.{Holds, held, Small, Lists};
+ghost use Rattle.image.specs.Stored.{Room, Stored};
+
+// A state: the tokens of each place, the counter of each transition, and the set of the transitions with a reset order.
+pub struct Held {
+    pub tokens: [u32; 128],
+    pub counters: [u32; 64],
+    pub orders: u64,
+}
+
+// Byte i, and 0 past the last.
+fn byte(bytes: &[u8], i: usize) -> u32
+    ensures { λ r. ⌜ r ≡ getD (now (bytes .entry)) i 0 ⌝ }
+    ensures { λ r. ⌜ r ≤ 255 ⌝ }
+{
+    if i < bytes.len() { bytes[i] as u32 } else { 0 }
+}
+
+// The two-byte number with which record k begins.
+fn number(bytes: &[u8], k: usize) -> u32
+    requires { ⌜ k < 192 ⌝ }
+    ensures { λ r. ⌜ r ≡ image (now (bytes .entry)) .number k ⌝ }
+    ensures { λ r. ⌜ r ≤ 65535 ⌝ }
+{
+    let low = byte(bytes, 4 * k);
+    let high = byte(bytes, 4 * k + 1);
+    low + 256 * high
+}
+
+// The tokens of each place.
+fn tokens(bytes: &[u8]) -> [u32; 128]
+    ensures { λ r. ⌜ Lists 128 (state (image (now (bytes .entry))) .tokens) r ⌝ }
+{
+    let mut xs = [0u32; 128];
+    let mut p = 0;
+    while p < 128 {
+        xs[p] = number(bytes, p);
+        p += 1;
+    }
+    xs
+}
+
+// The counter of each transition.
+fn counters(bytes: &[u8]) -> [u32; 64]
+    ensures { λ r. ⌜ Lists 64 (state (image (now (bytes .entry))) .counter) r ⌝ }
+{
+    let mut xs = [0u32; 64];
+    let mut t = 0;
+    while t < 64 {
+        xs[t] = number(bytes, 128 + t);
+        t += 1;
+    }
+    xs
+}
+
+// The set of the transitions with a reset order: those whose third byte is 1.
+fn orders(bytes: &[u8]) -> u64
+    ensures { λ r. ⌜ ((t : ℕ) → t < 64 → bit r t ≡ state (image (now (bytes .entry))) .order t) ⌝ }
+{
+    let mut set = 0u64;
+    let mut t = 0;
+    while t < 64 {
+        if byte(bytes, 4 * (128 + t) + 2) == 1 {
+            set = sets::with(set, t);
+        }
+        t += 1;
+    }
+    set
+}
+
+// The state that an image holds, as arrays; bytes past the end read as 0.
+pub fn load(bytes: &[u8]) -> Held
+    ensures { λ h. ⌜ Holds h (state (image (now (bytes .entry)))) ⌝ }
+    ensures { λ h. ⌜ Small h ⌝ }
+{
+    let tokens = tokens(bytes);
+    let counters = counters(bytes);
+    let orders = orders(bytes);
+    Held {
+        tokens,
+        counters,
+        orders,
+    }
+}
+
+// The four bytes of record k: a number, the lower byte first, a third byte and 0.
+fn store(bytes: &mut [u8], k: usize, x: u32, third: u8)
+    requires { ⌜ Room (now bytes) k x ⌝ }
+    ensures { λ _. ⌜ Stored (now (bytes .entry)) k x third (now (bytes .exit)) ⌝ }
+{
+    let at = 4 * k;
+    bytes[at] = (x % 256) as u8;
+    bytes[at + 1] = (x / 256) as u8;
+    bytes[at + 2] = third;
+    bytes[at + 3] = 0;
+}
+
+// 1 for a transition with a reset order, else 0.
+fn mark(orders: u64, t: usize) -> u8
+    ensures { λ r. ⌜ r ≡ cond (bit orders t) 1 0 ⌝ }
+{
+    if sets::has(orders, t) { 1 } else { 0 }
+}
+
+// The image of a state: all four bytes of each record.
+pub fn save(bytes: &mut [u8], h: Held)
+    requires { ⌜ length (now bytes) ≡ 768 ⌝ }
+    requires { ⌜ Small h ⌝ }
+    ensures { λ _. ⌜ now (bytes .exit) ≡ image-bytes (held h) ⌝ }
+{
+    let mut p = 0;
+    while p < 128 {
+        store(bytes, p, h.tokens[p], 0);
+        p += 1;
+    }
+    let mut t = 0;
+    while t < 64 {
+        let third = mark(h.orders, t);
+        store(bytes, 128 + t, h.counters[t], third);
+        t += 1;
+    }
+}

@@ -1,0 +1,2 @@
+-- What the timings hold.
+pub mod Times
