@@ -6,7 +6,7 @@ use native.Mathlib.Omega.{arith}
 use native.Mathlib.Nat.{le-of-eq}
 use lib.Dec.{ltb, leb, eqb}
 use borrow.Author.Tests.{le-ltb, ltb-false, eqb-true, eqb-false, ne-eqb, not-false, leb-true, le-leb}
-use Rattle.meaning.specs.Table.{Table, Row, kinds, rowOf}
+use Rattle.meaning.specs.Table.{Table, Row, kinds, kind-row}
 use Rattle.meaning.specs.Defined.{bad-kind, bad-field, interval}
 use Rattle.meaning.specs.Says.{Sort, Shown}
 use Rattle.meaning.proofs.Bool.{not-both, and-left, and-right, and-true, or-false, or-false-left, or-false-right}
@@ -67,7 +67,7 @@ nonzero (suc n) h = omega arith
 sort-shown : (k s o t f x : ℕ) → bad-kind (alone k o t s f x) 0 ≡ false → Sort k s
 unfolding bad-kind kinds
 sort-shown k s o t f x e =
-    each-kind (λ n. ltb (rowOf (alone n o t s f x) 0 .sort) s ≡ false → Sort n s)
+    each-kind (λ n. ltb (kind-row (alone n o t s f x) 0 .sort) s ≡ false → Sort n s)
     (λ q. up-to-0 (λ m. Sort 1 m) Sort.place s (ltb-false 0 s q))
     (λ q. up-to-2 (λ m. Sort 2 m) Sort.untimed Sort.between Sort.from s (ltb-false 2 s q))
     (λ q. up-to-3 (λ m. Sort 3 m) Sort.basic Sort.test Sort.inhibitor Sort.post s (ltb-false 3 s q))
@@ -78,10 +78,10 @@ sort-shown k s o t f x e =
     k
     (nonzero k (eqb-false k 0 (or-false-left (eqb k 0) (ltb 7 k) low)))
     (ltb-false 7 k (or-false-right (eqb k 0) (ltb 7 k) low))
-    (or-false-right (eqb k 0 || ltb 7 k) (ltb (rowOf (alone k o t s f x) 0 .sort) s) e)
+    (or-false-right (eqb k 0 || ltb 7 k) (ltb (kind-row (alone k o t s f x) 0 .sort) s) e)
   where
     low : (eqb k 0 || ltb 7 k) ≡ false
-    low = or-false-left (eqb k 0 || ltb 7 k) (ltb (rowOf (alone k o t s f x) 0 .sort) s) e
+    low = or-false-left (eqb k 0 || ltb 7 k) (ltb (kind-row (alone k o t s f x) 0 .sort) s) e
 
 -- What is shown has a sort that exists.
 shown-sort : {k o t s f x : ℕ} → Shown k o t s f x → Sort k s
@@ -129,12 +129,12 @@ six-false false false false false true f h = not-both refl h
 
 -- Fields that are not refused are within their kind's row.
 limits : (k o t s f x : ℕ) → bad-field (alone k o t s f x) 0 ≡ false
-    → (o ≤ rowOf (alone k o t s f x) 0 .one) × (t ≤ rowOf (alone k o t s f x) 0 .two) × (f ≤ rowOf (alone k o t s f x) 0 .four)
-    × (x ≤ rowOf (alone k o t s f x) 0 .six) × ((eqb k 3 && eqb f 0) ≡ false)
+    → (o ≤ kind-row (alone k o t s f x) 0 .one) × (t ≤ kind-row (alone k o t s f x) 0 .two) × (f ≤ kind-row (alone k o t s f x) 0 .four)
+    × (x ≤ kind-row (alone k o t s f x) 0 .six) × ((eqb k 3 && eqb f 0) ≡ false)
     × ((eqb k 2 && not (interval (alone k o t s f x) 0)) ≡ false)
 unfolding bad-field
 limits k o t s f x e =
-    let r : Row = rowOf (alone k o t s f x) 0 in
+    let r : Row = kind-row (alone k o t s f x) 0 in
     let h =
     six-false (ltb (r .one) o) (ltb (r .two) t) (ltb (r .four) f) (ltb (r .six) x) (eqb k 3 && eqb f 0)
     (eqb k 2 && not (interval (alone k o t s f x) 0)) e in

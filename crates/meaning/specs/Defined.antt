@@ -5,7 +5,7 @@ use Prim.Native.Nat.{ℕ, _+_, _*_, _-_, _%_}
 use lib.Dec.{ltb, leb, eqb}
 use lib.ListN.{length, getD}
 use Rattle.meaning.specs.Below.{some, first}
-use Rattle.meaning.specs.Table.{Table, table, rowOf, is, basic, test, inhibitor, post, place, transition}
+use Rattle.meaning.specs.Table.{Table, table, kind-row, is, basic, test, inhibitor, post, place, transition}
 use Rattle.meaning.specs.Answer.{Answer, refused, accepted, Check, check-of, decide}
 use Rattle.meaning.specs.Priority.{above}
 
@@ -15,7 +15,7 @@ bad-length bs = not (eqb (length bs % 8) 0) || ltb 8192 (length bs)
 
 -- 2 kind: byte 0 is not 1 to 7, or the kind has no such sort.
 unfoldable pub bad-kind : Table → ℕ → Bool
-bad-kind tb r = eqb (tb .kind r) 0 || ltb 7 (tb .kind r) || ltb (rowOf tb r .sort) (tb .sort r)
+bad-kind tb r = eqb (tb .kind r) 0 || ltb 7 (tb .kind r) || ltb (kind-row tb r .sort) (tb .sort r)
 
 -- A transition's interval is as its sort asks. Sort 0: a and b are 0. Sort 1: 1 ≤ a ≤ b ≤ 65,534. Sort 2: a is at least 1 and b is 0.
 unfoldable pub interval : Table → ℕ → Bool
@@ -31,10 +31,10 @@ interval tb r =
 -- 3 field: a number out of its kind's range or an unused byte not 0, a weight of 0, or an interval that is not as its sort asks.
 unfoldable pub bad-field : Table → ℕ → Bool
 bad-field tb r =
-    ltb (rowOf tb r .one) (tb .one r)
-    || ltb (rowOf tb r .two) (tb .two r)
-    || ltb (rowOf tb r .four) (tb .four r)
-    || ltb (rowOf tb r .six) (tb .six r)
+    ltb (kind-row tb r .one) (tb .one r)
+    || ltb (kind-row tb r .two) (tb .two r)
+    || ltb (kind-row tb r .four) (tb .four r)
+    || ltb (kind-row tb r .six) (tb .six r)
     || (is tb 3 r && eqb (tb .four r) 0)
     || (is tb 2 r && not (interval tb r))
 
@@ -78,7 +78,7 @@ unknown tb r =
     || (names-transition tb r && not (transition tb (tb .one r)))
     || (names-second tb r && not (transition tb (tb .two r)))
 
--- 6 empty: candidate 0 is that there is no place, candidate 1 that there is no transition.
+-- 6 empty (definition 14): candidate 0 is that there is no place, candidate 1 that there is no transition.
 unfoldable pub empty : Table → ℕ → Bool
 empty tb k = not (some (tb .records) (λ r. is tb (k + 1) r))
 
@@ -89,7 +89,7 @@ arc-at-place tb p = some (tb .records) (λ r. is tb 3 r && eqb (tb .one r) p)
 unfoldable pub arc-at-transition : Table → ℕ → Bool
 arc-at-transition tb t = some (tb .records) (λ r. is tb 3 r && eqb (tb .two r) t)
 
--- 7 isolated: candidates 0 to 127 are the places, 128 to 191 the transitions.
+-- 7 isolated (definition 14): candidates 0 to 127 are the places, 128 to 191 the transitions.
 unfoldable pub isolated : Table → ℕ → Bool
 isolated tb k =
     let place-alone = not (arc-at-place tb k) in
@@ -98,7 +98,7 @@ isolated tb k =
     let transition-part = transition tb (k - 128) && transition-alone in
     cond (ltb k 128) place-part transition-part
 
--- 8 circle: the transition stands above itself.
+-- 8 circle: the transition stands above itself, so the priority is no order (definition 14 asks for one).
 unfoldable pub circle : Table → ℕ → Bool
 circle tb t = above tb t t
 
@@ -158,6 +158,6 @@ table-checks bs =
     ∷ check-of 64 (clashes tb) (λ i. refused 9 (64 * i + first 64 (unsettled tb i)))
     ∷ []
 
--- A table is well defined when none of 1 to 9 applies.
+-- A table is well defined when none of 1 to 9 applies (definition 14, read pair by pair as the page decides).
 unfoldable pub check : List ℕ → Answer
 check bs = decide (table-checks bs) (accepted 0)

@@ -58,8 +58,8 @@ kinds =
     ∷ []
 
 -- The row of record r's kind.
-abbrev pub rowOf : Table → ℕ → Row
-rowOf tb r = getD kinds (tb .kind r - 1) (row 0 0 0 0 0)
+abbrev pub kind-row : Table → ℕ → Row
+kind-row tb r = getD kinds (tb .kind r - 1) (row 0 0 0 0 0)
 
 -- Record r is of kind k.
 abbrev pub is : Table → ℕ → ℕ → Bool

@@ -6,7 +6,7 @@ use Prim.Native.Nat.{ℕ, zero, suc, _-_, _≤_}
 use lib.Dec.{ltb, eqb}
 use lib.ListN.{getD, List·getD-map}
 use borrow.Author.Tests.{le-ltb, ne-eqb}
-use Rattle.meaning.specs.Table.{Row, row, kinds, rowOf}
+use Rattle.meaning.specs.Table.{Row, row, kinds, kind-row}
 use Rattle.meaning.specs.Defined.{bad-kind, bad-field, interval}
 use Rattle.records.specs.declared.Rec.{Rec}
 use Rattle.records.specs.Record.{alone, interval-of, fault-of}
@@ -72,7 +72,7 @@ module _ (x : Rec) (w : ℕ) (e : w ≡ x .kind) where
   unfolding bad-field kinds interval-of interval
   fields-tested v p o q =
       rw (
-        or-assoc (exceeds (rowOf (alone x) 0) x),
+        or-assoc (exceeds (kind-row (alone x) 0) x),
         p,
         q,
         e,

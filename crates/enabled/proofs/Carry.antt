@@ -1,0 +1,156 @@
+-- From the arrays to the table: a transition's words name the places of its input arcs, and a cell is the one arc of its place and transition, so what
+-- stops the transition by the arrays is what stops it by the table.
+use mathlib.Core.Bool.{Bool, true, false, cond, not, _&&_, Bool·beq}
+use mathlib.Core.List.{List}
+use mathlib.Core.Path.{_≡_, refl, sym, ap, _∙_}
+use Prim.Native.Nat.{ℕ, _+_, _-_, _≤_, _<_}
+use native.Mathlib.Omega.{arith}
+use lib.Dec.{leb, ltb, eqb}
+use lib.ListN.{getD}
+use borrow.Author.Tests.{ltb-true, ltb-false, eqb-true, eqb-false, lt-ltb, le-leb, lt-leb, eq-eqb, ne-eqb, not-true}
+use Rattle.meaning.specs.Below.{some, every}
+use Rattle.meaning.specs.Bytes.{bit}
+use Rattle.meaning.specs.Table.{Table, is, post}
+use Rattle.meaning.specs.Defined.{faulty}
+use Rattle.meaning.specs.Cycle.{stops, enabled}
+use Rattle.meaning.proofs.Bool.{and-left, and-right, and-true, same-test}
+use Rattle.meaning.proofs.Below.{every-elim, some-intro, some-elim, some-same}
+use Rattle.meaning.proofs.Shows.{Shows}
+use Rattle.meaning.proofs.Faults.{faultless}
+use Rattle.net.specs.Rows.{Weights, Sorts, input, cell}
+use Rattle.net.proofs.Carry.{latest-is}
+use Rattle.table.specs.Index.{row}
+use Rattle.table.proofs.Carry.{Clean}
+use Rattle.table.proofs.Rows.{kind-of, Spot, spot, row-test, beq-true}
+use Rattle.enabled.specs.declared.Inputs.{Inputs}
+use Rattle.enabled.specs.Inputs.{Inputs-of, in-words, stops-at, enabled-by}
+
+-- At most is not above.
+at-most : (a b : ℕ) → leb a b ≡ not (ltb b a)
+at-most a b = go (ltb b a) refl
+  where
+    go : (x : Bool) → ltb b a ≡ x → leb a b ≡ not x
+    go true e = lt-leb a b (ltb-true b a e)
+    go false e = le-leb a b (ltb-false b a e)
+
+-- Four tests pass together, so each does.
+each : (a b c d : Bool) → (a && b && c && d) ≡ true → (a ≡ true) × (b ≡ true) × (c ≡ true) × (d ≡ true)
+each a b c d e =
+    let abc = and-left (a && b && c) d e in
+    let ab = and-left (a && b) c abc in
+    (and-left a b ab, and-right a b ab, and-right (a && b) c abc, and-right (a && b && c) d e)
+
+-- A record in the block of the input arcs, class 2, is an arc and no post arc.
+input-is : {j o s : ℕ} (z : Spot j o s) → eqb (z .class) 2 ≡ (eqb j 3 && not (eqb j 3 && eqb s 3))
+unfolding every
+input-is z =
+    rw (z .post-is, z .kind-is)
+    (beq-true _ _ (every-elim 8 (λ c. Bool·beq (eqb c 2) (eqb (kind-of c) 3 && not (eqb c 3))) refl (z .class) (z .low)))
+
+-- Record r is an input arc to transition t.
+abbrev Arc : Table → ℕ → ℕ → Type 0
+Arc tb t r = (r < tb .records) × (tb .kind r ≡ 3) × (tb .sort r < 3) × (tb .two r ≡ t)
+
+-- Record r is an input arc from place p to transition t, by tests.
+abbrev from-to : Table → ℕ → ℕ → ℕ → Bool
+from-to tb p t r = is tb 3 r && not (post tb r) && eqb (tb .one r) p && eqb (tb .two r) t
+
+module _ (tb : Table) (w s : List (List ℕ)) (index : List ℕ) (x : Inputs) (gw : Weights tb w) (gs : Sorts tb s) (clean : Clean tb index)
+    (gx : Inputs-of index x)
+    (arcs : (r : ℕ) → r < tb .records → tb .kind r ≡ 3 → (tb .one r < 128) × (tb .two r < 64) × (1 ≤ tb .four r) × (tb .sort r ≤ 3))
+    (single : (r q : ℕ) → r < tb .records → q < tb .records → tb .kind r ≡ 3 → tb .kind q ≡ 3 → tb .sort r < 3 → tb .sort q < 3
+    → tb .one r ≡ tb .one q → tb .two r ≡ tb .two q → r ≡ q) (t : ℕ) (ht : t < 64) where
+  -- An arc that is no post arc is an input arc.
+  arc-of : (r : ℕ) → r < tb .records → is tb 3 r ≡ true → not (post tb r) ≡ true → eqb (tb .two r) t ≡ true → Arc tb t r
+  arc-of r h k n e =
+      let kind : tb .kind r ≡ 3 = eqb-true (tb .kind r) 3 k in
+      let other : ¬ (tb .sort r ≡ 3) = eqb-false (tb .sort r) 3 (rw k at (not-true (post tb r) n)) in
+      (h, kind, omega (arith, arcs r h kind .3), eqb-true (tb .two r) t e)
+
+  -- A cell holds its arc's weight and sort.
+  cell-of : (r : ℕ) → Arc tb t r → (cell w (tb .one r) t ≡ tb .four r) × (cell s (tb .one r) t ≡ tb .sort r)
+  cell-of r a = (
+    gw .holds (tb .one r) t place ht ∙ latest-is (tb .records) (input tb (tb .one r) t) (tb .four) r (a .0) passes alone,
+    gs .holds (tb .one r) t place ht ∙ latest-is (tb .records) (input tb (tb .one r) t) (tb .sort) r (a .0) passes alone,
+  )
+    where
+      place : tb .one r < 128
+      place = arcs r (a .0) (a .1) .0
+
+      passes : input tb (tb .one r) t r ≡ true
+      passes = and-true (and-true (and-true (eq-eqb _ _ (a .1)) (lt-ltb _ _ (a .2))) (eq-eqb (tb .one r) (tb .one r) refl)) (eq-eqb _ _ (a .3))
+
+      alone : (q : ℕ) → q < tb .records → input tb (tb .one r) t q ≡ true → q ≡ r
+      alone q h e =
+          let b = each (is tb 3 q) (ltb (tb .sort q) 3) (eqb (tb .one q) (tb .one r)) (eqb (tb .two q) t) e in
+          single q r h (a .0) (eqb-true _ _ (b .0)) (a .1) (ltb-true _ _ (b .1)) (a .2) (eqb-true _ _ (b .2)) (eqb-true _ _ (b .3) ∙ sym (a .3))
+
+  -- So an arc stops t by the cells exactly if it does by the table.
+  stops-same : (m : List ℕ) (r : ℕ) → Arc tb t r → stops-at m w s t (tb .one r) ≡ stops tb (λ p. getD m p 0) t r
+  unfolding stops
+  stops-same m r a =
+      let c = cell-of r a in
+      rw (
+        c .0,
+        c .1,
+        eq-eqb (tb .kind r) 3 (a .1),
+        ne-eqb (tb .sort r) 3 (λ e. omega arith),
+        eq-eqb (tb .two r) t (a .3),
+        at-most (tb .four r) (getD m (tb .one r) 0),
+      )
+
+  -- Row 192 + p has t exactly if some input arc comes from place p to t.
+  row-same : (p : ℕ) → p < 128 → bit (getD index (192 + p) 0) t ≡ some (tb .records) (from-to tb p t)
+  unfolding row faulty
+  row-same p h =
+      clean .index .holds (192 + p) t (omega arith) ht
+      ∙ some-same (tb .records) _ (from-to tb p t)
+      (λ r l.
+      let z = spot (shown r l) in
+      ap (λ (b : Bool). b && eqb (tb .two r) t) (row-test z 2 p (omega arith) h ∙ ap (λ (b : Bool). b && eqb (tb .one r) p) (input-is z)))
+    where
+      shown : (r : ℕ) → r < tb .records → Shows tb r
+      shown r l = faultless tb r (rw (clean .fine r l)) .0
+
+  -- So has place p in t's words.
+  words-same : (p : ℕ) → p < 128 → in-words (getD (x .low) t 0) (getD (x .high) t 0) p ≡ some (tb .records) (from-to tb p t)
+  words-same p h = go (ltb p 64) refl ∙ row-same p h
+    where
+      go : (b : Bool) → ltb p 64 ≡ b → cond b (bit (getD (x .low) t 0) p) (bit (getD (x .high) t 0) (p - 64)) ≡ bit (getD index (192 + p) 0) t
+      go true e = gx .low t p ht (ltb-true p 64 e)
+      go false e =
+          let past : 192 + (64 + (p - 64)) ≡ 192 + p = omega (arith, ltb-false p 64 e) in
+          gx .high t (p - 64) ht (omega arith) ∙ rw past
+
+  -- The arrays enable t exactly if the table does.
+  pub enabled-same : (m : List ℕ) → enabled-by m w s (getD (x .low) t 0) (getD (x .high) t 0) t ≡ enabled tb (λ p. getD m p 0) t
+  unfolding enabled-by enabled stops
+  enabled-same m = ap not (same-test (some 128 by-place) (some (tb .records) (stops tb (λ p. getD m p 0) t)) there back)
+    where
+      here : ℕ → Bool
+      here p = in-words (getD (x .low) t 0) (getD (x .high) t 0) p
+
+      by-place : ℕ → Bool
+      by-place p = here p && stops-at m w s t p
+
+      there : some 128 by-place ≡ true → some (tb .records) (stops tb (λ p. getD m p 0) t) ≡ true
+      there e =
+          let p = some-elim 128 by-place e in
+          let r = some-elim (tb .records) (from-to tb (p .0) t) (sym (words-same (p .0) (p .1)) ∙ and-left (here (p .0)) _ (p .2)) in
+          let q = each (is tb 3 (r .0)) (not (post tb (r .0))) (eqb (tb .one (r .0)) (p .0)) (eqb (tb .two (r .0)) t) (r .2) in
+          some-intro (tb .records) (stops tb (λ p. getD m p 0) t) (r .0) (r .1)
+          (sym (stops-same m (r .0) (arc-of (r .0) (r .1) (q .0) (q .1) (q .3)))
+          ∙ ap (stops-at m w s t) (eqb-true (tb .one (r .0)) (p .0) (q .2)) ∙ and-right (here (p .0)) _ (p .2))
+
+      back : some (tb .records) (stops tb (λ p. getD m p 0) t) ≡ true → some 128 by-place ≡ true
+      back e =
+          let r = some-elim (tb .records) (stops tb (λ p. getD m p 0) t) e in
+          let q = each (is tb 3 (r .0)) (not (post tb (r .0))) (eqb (tb .two (r .0)) t) _ (r .2) in
+          let a = arc-of (r .0) (r .1) (q .0) (q .1) (q .2) in
+          let place = arcs (r .0) (r .1) (a .1) .0 in
+          some-intro 128 by-place (tb .one (r .0)) place
+          (and-true
+          (words-same (tb .one (r .0)) place
+          ∙ some-intro (tb .records) (from-to tb (tb .one (r .0)) t) (r .0) (r .1)
+          (and-true (and-true (and-true (q .0) (q .1)) (eq-eqb (tb .one (r .0)) (tb .one (r .0)) refl)) (q .2)))
+          (stops-same m (r .0) a ∙ r .2))

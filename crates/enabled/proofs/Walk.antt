@@ -1,0 +1,90 @@
+-- A walk over the members of a word, the lowest first: each turn takes one out, so that the word falls, and what is still to come is what the word has.
+use mathlib.Core.Bool.{Bool, true, false, not, _&&_, _||_, and-true, and-false, or-false}
+use mathlib.Core.List.{List}
+use mathlib.Core.Path.{_≡_, refl, sym, ap, _∙_}
+use Prim.Native.Nat.{ℕ, _+_, _-_, _^_, _<_}
+use native.Mathlib.Omega.{arith}
+use lib.Dec.{eqb, ltb}
+use lib.ListN.{length, getD, set, replicate, getD-replicate}
+use lib.Pow.{pow-pos}
+use lib.Seq.{getD-set-same, getD-set-other}
+use borrow.Author.Tests.{eqb-true, eqb-false, eq-eqb, ne-eqb, lt-ltb, le-ltb, ltb-true, ltb-false, not-false}
+use Rattle.meaning.specs.Below.{some, first}
+use Rattle.meaning.specs.Bytes.{bit}
+use Rattle.meaning.proofs.Bool.{not-both}
+use Rattle.meaning.proofs.Below.{some-intro, some-elim, none-intro, some-same, first-before, first-passes}
+use Rattle.sets.proofs.Bits.{bit-zero, bit-least, bit-less, same-set, zero-set}
+use Rattle.enabled.specs.Inputs.{Spread}
+
+-- The lowest member of a word that is not empty is below 64, and is in the word.
+pub lowest-in : (a k : ℕ) → a < 2 ^ 64 → ¬ (a ≡ 0) → k ≡ first 64 (bit a) → (k < 64) × (bit a k ≡ true)
+lowest-in a k h n e =
+    let w = some-elim 64 (bit a) (not-false (some 64 (bit a)) (sym (zero-set a h) ∙ ne-eqb a 0 n)) in
+    let above : ¬ (w .0 < first 64 (bit a)) = λ l. not-both (w .2) (first-before 64 (bit a) (w .0) l) in
+    let low : first 64 (bit a) < 64 = omega (arith, w .1) in
+    (omega arith, ap (bit a) e ∙ first-passes 64 (bit a) low)
+
+-- Transition t's word has place j, or is to take it: t is in what is left of the row, and place p is j.
+abbrev pub due : List ℕ → ℕ → ℕ → ℕ → ℕ → Bool
+due words left p t j = bit (getD words t 0) j || (bit left t && (eqb p j && ltb p 64))
+
+-- A turn takes member k out of word a and leaves word b.
+module _ (a k b : ℕ) (rest : (j : ℕ) → bit b j ≡ (bit a j && not (eqb k j))) where
+  -- The word falls.
+  pub falls : a < 2 ^ 64 → b < 2 ^ 64 → bit a k ≡ true → b < a
+  falls h l e =
+      let least = bit-least a k e in
+      let same : b ≡ a - 2 ^ k = same-set b (a - 2 ^ k) l (omega arith) (λ j _. rest j ∙ sym (bit-less k a j e)) in
+      omega (arith, pow-pos k)
+
+  -- A member that fails the test changes no answer.
+  pub passed : (f : ℕ → Bool) → f k ≡ false → some 64 (λ p. bit a p && f p) ≡ some 64 (λ p. bit b p && f p)
+  passed f e = some-same 64 _ _ (λ p h. go p (eqb k p) refl)
+    where
+      go : (p : ℕ) (x : Bool) → eqb k p ≡ x → (bit a p && f p) ≡ (bit b p && f p)
+      go p true q = rw (← eqb-true k p q, e, and-false (bit a k)) (sym (and-false (bit b k)))
+      go p false q = rw (rest p, q, and-true (bit a p))
+
+  -- Place p goes into the word of member k: what each transition's word has or is to take stays the same.
+  pub added : (words : List ℕ) (v p : ℕ) → k < length words → bit a k ≡ true
+      → ((j : ℕ) → bit v j ≡ (bit (getD words k 0) j || (eqb p j && ltb p 64))) → (t j : ℕ)
+      → due (set words k v) b p t j ≡ due words a p t j
+  added words v p h e gains t j = go (eqb k t) refl
+    where
+      go : (x : Bool) → eqb k t ≡ x → due (set words k v) b p t j ≡ due words a p t j
+      go true q = rw (← eqb-true k t q, getD-set-same words k v 0 h, gains j, rest k, e, eq-eqb k k refl) (or-false _)
+      go false q = rw (getD-set-other words k t v 0 (λ z. eqb-false k t q (sym z)), rest t, q, and-true (bit a t))
+
+-- A member that passes the test is an answer, and the empty word has none.
+pub found : (a k : ℕ) (f : ℕ → Bool) → k < 64 → bit a k ≡ true → f k ≡ true → some 64 (λ p. bit a p && f p) ≡ true
+found a k f h e q = some-intro 64 (λ p. bit a p && f p) k h (Rattle.meaning.proofs.Bool.and-true e q)
+
+pub nothing : (a : ℕ) (f : ℕ → Bool) → a ≡ 0 → some 64 (λ p. bit a p && f p) ≡ false
+nothing a f e = none-intro 64 _ (λ k h. rw (e, bit-zero k))
+
+-- With nothing left a transition's word has all it was to take.
+pub none-due : (words : List ℕ) (a p t j : ℕ) → a ≡ 0 → bit (getD words t 0) j ≡ due words a p t j
+none-due words a p t j e = rw (e, bit-zero t) (sym (or-false _))
+
+-- Before the first row no word has a place.
+pub no-row : (index : List ℕ) (from t q : ℕ) → t < 64 → q < 64 → bit (getD (replicate 64 0) t 0) q ≡ (ltb q 0 && bit (getD index (from + q) 0) t)
+no-row index from t q h l = rw (getD-replicate {A = ℕ} 64 t 0 0 h, bit-zero q, le-ltb q 0 (omega arith))
+
+-- One more row: place p is added to the words of the transitions of row p.
+pub one-more : (index words after : List ℕ) (from p : ℕ) → p < 64
+    → ((t q : ℕ) → t < 64 → q < 64 → bit (getD words t 0) q ≡ (ltb q p && bit (getD index (from + q) 0) t))
+    → Spread words (getD index (from + p) 0) p after
+    → (t q : ℕ) → t < 64 → q < 64 → bit (getD after t 0) q ≡ (ltb q (p + 1) && bit (getD index (from + q) 0) t)
+one-more index words after from p h before s t q ht hq =
+    s .holds t q ht ∙ rw (before t q ht hq, lt-ltb p 64 h) (go (ltb q p) (eqb p q) refl refl)
+  where
+    row : ℕ → Bool
+    row q = bit (getD index (from + q) 0) t
+
+    go : (x y : Bool) → ltb q p ≡ x → eqb p q ≡ y → ((x && row q) || (row p && (y && true))) ≡ (ltb q (p + 1) && row q)
+    go true true e f = absurd (omega (arith, ltb-true q p e, eqb-true p q f))
+    go true false e f = rw (lt-ltb q (p + 1) (omega (arith, ltb-true q p e)), and-false (row p)) (or-false (row q))
+    go false true e f = rw (lt-ltb q (p + 1) (omega (arith, eqb-true p q f)), and-true (row p)) (ap row (eqb-true p q f))
+    go false false e f =
+        let apart : ¬ (p ≡ q) = eqb-false p q f in
+        rw (le-ltb q (p + 1) (omega (arith, ltb-false q p e)), and-false (row p))

@@ -1,0 +1,2 @@
+-- When the arrays enable a transition.
+pub mod Inputs
