@@ -1,13 +1,14 @@
 -- One round, row by row: a row that has k gets all that k's row has, and the others stay.
 use mathlib.Core.Bool.{true, false, _&&_, _||_, or-false, and-false}
 use mathlib.Core.List.{List}
-use mathlib.Core.Path.{_≡_, sym, ap, _∙_}
+use mathlib.Core.Path.{_≡_, refl, sym, ap, _∙_}
 use Prim.Native.Nat.{ℕ, _+_, _≤_, _<_}
 use native.Mathlib.Omega.{arith}
 use lib.ListN.{getD, set, length, length-set}
 use lib.Seq.{getD-set-same, getD-set-other}
 use borrow.Author.Count.{below-more}
 use Rattle.meaning.specs.Bytes.{bit}
+use Rattle.priority.specs.Closed.{Round}
 use Rattle.sets.proofs.Bits.{bit-zero}
 
 module _ (rows : List ℕ) (k : ℕ) where
@@ -50,3 +51,7 @@ module _ (rows : List ℕ) (k : ℕ) where
         below = below-more _ _ (λ v l. rw (getD-set-other next u v s 0 (λ e. omega arith)) (d .below v l)) (rw here j);
         above = λ v l. getD-set-other next u v s 0 (λ e. omega arith) ∙ d .above v (omega arith);
       }
+
+  -- Where k's row is empty the round changes nothing.
+  pub skipped : getD rows k 0 ≡ 0 → Round rows k rows
+  skipped e = record { over = λ h u t hu ht. empty-k u e t; still = λ h. refl }

@@ -17,7 +17,9 @@ pub fn close(index: &[u64; 768]) -> [u64; 64]
     }
     let mut k = 0;
     while k < 64 {
-        rows = through(rows, k);
+        if rows[k] != 0 {
+            rows = through(rows, k);
+        }
         k += 1;
     }
     rows

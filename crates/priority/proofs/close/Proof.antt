@@ -1,4 +1,5 @@
 -- `close` gives the closed rows: the first loop copies the written pairs, and each turn of the second makes one more round, 64 in all.
+use mathlib.Core.Logic.{⊎-elim}
 use mathlib.Core.Path.{_≡_, refl, _∙_}
 use Prim.Native.Nat.{ℕ, _+_, _≤_, _<_, _-_}
 use native.Mathlib.Nat.{not-suc-le-zero}
@@ -7,6 +8,7 @@ use lib.ListN.{getD, length, length-set}
 use lib.Seq.{getD-set-same, getD-set-other}
 use borrow.Author.Count.{below-more}
 use borrow.Author.Needs.{needs}
+use Rattle.priority.proofs.Round.{skipped}
 use Rattle.priority.proofs.Warshall.{Rounds, copied, rounded, closing}
 use Rattle.priority.proofs.close.Statement.{statement}
 use Rattle.priority.proofs.close.Tie as tie
@@ -64,6 +66,12 @@ loop2-holds : tie.Need-loop2-holds Inv-loop μ-loop Inv-loop2 μ-loop2
 loop2-holds c =
     (omega arith, copied (c .before .before .args .index .now) (c .before .loop .rows) (λ u h. c .before .loop .inv .2 u (omega arith)))
 
+mul-if1 : tie.Need-mul-if1 Inv-loop μ-loop Inv-loop2 μ-loop2
+mul-if1 c = search needs
+
+array-read-if1 : tie.Need-array-read-if1 Inv-loop μ-loop Inv-loop2 μ-loop2
+array-read-if1 c = c .loop2-test .taken
+
 through-requires : tie.Need-through-requires Inv-loop μ-loop Inv-loop2 μ-loop2
 through-requires c κs = search needs
 
@@ -74,10 +82,14 @@ loop2-less : tie.Need-loop2-less Inv-loop μ-loop Inv-loop2 μ-loop2
 loop2-less c = search needs
 
 loop2-again : tie.Need-loop2-again Inv-loop μ-loop Inv-loop2 μ-loop2
-loop2-again c = (
-  omega arith,
-  rounded (c .before .before .before .before .before .args .index .now) (omega arith) (c .before .before .loop2 .inv .1) (c .through .ensures),
-)
+loop2-again c =
+    let index = c .before .before .before .before .before .args .index .now in
+    let low : c .before .before .loop2 .k < 64 = omega arith in (
+      omega arith,
+      ⊎-elim (λ w. rw (w .2) (rounded index low (c .before .before .loop2 .inv .1) (w .1 .ensures)))
+          (λ w. rw (w .1) (rounded index low (c .before .before .loop2 .inv .1) (skipped (c .before .before .loop2 .rows) (c .before .before .loop2 .k) (w .0 .left))))
+          (c .if1 .came),
+    )
 
 returns : tie.Need-returns Inv-loop μ-loop Inv-loop2 μ-loop2
 returns c =
@@ -102,6 +114,8 @@ close-spec =
     loop-less
     loop-again
     loop2-holds
+    mul-if1
+    array-read-if1
     through-requires
     add-k
     loop2-less
