@@ -1,0 +1,3 @@
+-- What the proofs of the functions share, and the laws that carry what a set moves to the meaning.
+pub mod Step
+pub mod Carry

@@ -1,0 +1,131 @@
+-- One more record, and one more member: a post arc is an input arc of the table with its sorts turned, so the laws of the input arcs' cells serve;
+-- and what is left of a set, with the member taken out, adds up to the set.
+use mathlib.Core.Bool.{Bool, true, false, cond, not, _&&_}
+use mathlib.Core.List.{List}
+use mathlib.Core.Logic.{⊎-elim}
+use mathlib.Core.Path.{_≡_, refl, sym, ap, _∙_}
+use Prim.Native.Nat.{ℕ, zero, suc, _+_, _≤_, _<_}
+use native.Mathlib.Nat.{add-zero, zero-add}
+use native.Mathlib.Omega.{arith}
+use native.Mathlib.Numerals.{add-one}
+use lib.Bits.{bitAnd}
+use lib.Dec.{eqb, ltb}
+use lib.ListN.{length, getD, set}
+use lib.Seq.{getD-set-same, getD-set-other}
+use borrow.Author.Tests.{eqb-true, ltb-true, eq-eqb, ne-eqb}
+use Rattle.meaning.specs.Below.{sum, first}
+use Rattle.meaning.specs.Bytes.{bit}
+use Rattle.meaning.specs.Table.{Table, post}
+use Rattle.meaning.proofs.Bool.{and-left, and-right, not-both}
+use Rattle.meaning.proofs.Below.{sum-same, sum-add, sum-zero, sum-mono, sum-part, first-passes, first-before, last}
+use Rattle.meaning.proofs.Sound.{sum-one}
+use Rattle.sets.proofs.Bits.{bit-and}
+use Rattle.records.specs.Record.{Reads}
+use Rattle.records.specs.declared.Rec.{Rec}
+use Rattle.net.specs.Rows.{latest, input}
+use Rattle.net.proofs.Step.{Kept}
+use Rattle.moves.specs.Moves.{Posts}
+
+-- The table with its post arcs as input arcs, and no others.
+abbrev pub turned : Table → Table
+turned tb =
+    record {
+      records = tb .records;
+      kind = tb .kind;
+      one = tb .one;
+      two = tb .two;
+      sort = λ r. cond (eqb (tb .sort r) 3) 0 3;
+      four = tb .four;
+      six = tb .six;
+    }
+
+-- A turned sort is an input arc's just if the sort is a post arc's.
+turned-sort : (b : Bool) → ltb (cond b 0 3) 3 ≡ b
+turned-sort true = refl
+turned-sort false = refl
+
+pub turned-says : (tb : Table) (p t r : ℕ) → input (turned tb) p t r ≡ (post tb r && eqb (tb .one r) p && eqb (tb .two r) t)
+turned-says tb p t r = rw (turned-sort (eqb (tb .sort r) 3))
+
+-- The same tests have the same last record.
+latest-same : (n : ℕ) (p q : ℕ → Bool) (f : ℕ → ℕ) → ((r : ℕ) → p r ≡ q r) → latest n p f ≡ latest n q f
+unfolding latest
+latest-same zero p q f e = refl
+latest-same (suc n) p q f e = rw (e n, latest-same n p q f e)
+
+-- The cells of all the records are the weights of the post arcs.
+pub posts-kept : (tb : Table) (w : List (List ℕ)) → Kept (turned tb) (tb .four) (tb .records) w → Posts tb w
+posts-kept tb w k =
+    record {
+      holds = λ p t hp ht.
+          k .holds p t hp ht
+          ∙ latest-same (tb .records) (input (turned tb) p t) (λ r. post tb r && eqb (tb .one r) p && eqb (tb .two r) t) (tb .four) (turned-says tb p t);
+    }
+
+-- What the test of a post arc says: the table's record is one, and its cell is one of the 128 by 64.
+module _ (x : Rec) (b : Bool) (e : b ≡ (eqb (x .kind) 3 && eqb (x .sort) 3 && ltb (x .one) 128 && ltb (x .two) 64)) where
+  pub post-says : (tb : Table) (r : ℕ) → Reads tb r x → (post tb r && ltb (tb .one r) 128 && ltb (tb .two r) 64) ≡ b
+  post-says tb r h = sym (e ∙ rw (h .kind, h .sort, h .one, h .two))
+
+  pub post-low : b ≡ true → (x .one < 128) × (x .two < 64)
+  post-low t =
+      let k = eqb (x .kind) 3 && eqb (x .sort) 3 in
+      let all : (k && ltb (x .one) 128 && ltb (x .two) 64) ≡ true = sym e ∙ t in (
+        ltb-true _ _ (and-right k (ltb (x .one) 128) (and-left (k && ltb (x .one) 128) (ltb (x .two) 64) all)),
+        ltb-true _ _ (and-right (k && ltb (x .one) 128) (ltb (x .two) 64) all),
+      )
+
+-- The sum of f over the members of a set.
+abbrev pub over : ℕ → (ℕ → ℕ) → ℕ
+over s f = sum 64 (λ t. cond (bit s t) (f t) 0)
+
+-- A member, and the set without it.
+module _ (f : ℕ → ℕ) (left rest k : ℕ) (low : k < 64) (has : bit left k ≡ true) (less : (j : ℕ) → bit rest j ≡ (bit left j && not (eqb k j))) where
+  pub over-less : over left f ≡ f k + over rest f
+  over-less =
+      sum-same 64 (λ t. cond (bit left t) (f t) 0) (λ t. cond (eqb k t) (f t) 0 + cond (bit rest t) (f t) 0)
+      (λ t h. rw (less t) (part t (eqb k t) (bit left t) refl refl))
+      ∙ sum-add 64 (λ t. cond (eqb k t) (f t) 0) (λ t. cond (bit rest t) (f t) 0)
+      ∙ ap (λ (x : ℕ). x + over rest f) lone
+    where
+      part : (t : ℕ) (b c : Bool) → eqb k t ≡ b → bit left t ≡ c → cond c (f t) 0 ≡ cond b (f t) 0 + cond (c && not b) (f t) 0
+      part t true true e d = sym (add-zero (f t))
+      part t true false e d = not-both (ap (bit left) (sym (eqb-true k t e)) ∙ has) d
+      part t false true e d = sym (zero-add (f t))
+      part t false false e d = refl
+
+      lone : sum 64 (λ t. cond (eqb k t) (f t) 0) ≡ f k
+      lone = sum-one 64 (λ t. cond (eqb k t) (f t) 0) k low (λ t h n. rw (ne-eqb k t (λ e. n (sym e)))) ∙ rw (eq-eqb k k refl)
+
+-- Where the first member is 64 or more there is none.
+pub over-none : (s t : ℕ) (f : ℕ → ℕ) → t ≡ first 64 (bit s) → 64 ≤ t → over s f ≡ 0
+over-none s t f e h = sum-zero 64 (λ t. cond (bit s t) (f t) 0) (λ j l. rw (first-before 64 (bit s) j (omega arith)))
+
+-- The first member below 64 is one.
+pub lowest-has : (s t : ℕ) → t ≡ first 64 (bit s) → t < 64 → bit s t ≡ true
+lowest-has s t e h = ap (bit s) e ∙ first-passes 64 (bit s) (omega arith)
+
+-- A member weighs at most what the set does, and a set has at most 64.
+pub over-part : (s k : ℕ) (f : ℕ → ℕ) → k < 64 → bit s k ≡ true → f k ≤ over s f
+over-part s k f h e = rw e at (sum-part 64 (λ t. cond (bit s t) (f t) 0) k h)
+
+pub count-low : (s : ℕ) → over s (λ t. 1) ≤ 64
+unfolding sum
+count-low s = sum-mono 64 (λ t. cond (bit s t) 1 0) (λ t. 1) (λ k h. at-most (bit s k))
+  where
+    at-most : (b : Bool) → cond b 1 0 ≤ 1
+    at-most true = omega arith
+    at-most false = omega arith
+
+-- Who is in both sets.
+pub over-both : (s a : ℕ) (f : ℕ → ℕ) → over (bitAnd s a) f ≡ sum 64 (λ t. cond (bit s t && bit a t) (f t) 0)
+over-both s a f =
+    sum-same 64 (λ t. cond (bit (bitAnd s a) t) (f t) 0) (λ t. cond (bit s t && bit a t) (f t) 0) (λ t h. rw (bit-and s a t))
+
+-- One more place is filled.
+pub filled : (r : List ℕ) (p v : ℕ) (g : ℕ → ℕ) → p < length r → ((q : ℕ) → q < p → getD r q 0 ≡ g q) → v ≡ g p
+    → (q : ℕ) → q < p + 1 → getD (set r p v) q 0 ≡ g q
+filled r p v g h before here q l =
+    ⊎-elim (λ (e : q ≡ p). rw e (getD-set-same r p v 0 h ∙ here))
+    (λ (m : q < p). getD-set-other r p q v 0 (λ e. omega arith) ∙ before q m)
+    (last (rw add-one at l))

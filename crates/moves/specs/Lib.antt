@@ -1,0 +1,2 @@
+-- What a set of transitions moves.
+pub mod Moves

@@ -1,0 +1,23 @@
+-- The tokens that a set of transitions moves at each place, by the arcs that rows of places name.
+use mathlib.Core.Bool.{Bool, cond, _&&_}
+use mathlib.Core.List.{List}
+use mathlib.Core.Path.{_≡_}
+use Prim.Native.Nat.{ℕ, _<_}
+use lib.Dec.{eqb}
+use lib.ListN.{getD}
+use Rattle.meaning.specs.Below.{sum}
+use Rattle.meaning.specs.Bytes.{bit}
+use Rattle.meaning.specs.Table.{Table, post}
+use Rattle.net.specs.Rows.{latest, cell}
+
+-- The weight of the post arc from each transition to each place, 0 where there is none.
+pub record Posts (tb : Table) (w : List (List ℕ)) : Type 0 where
+  pub holds : (p t : ℕ) → p < 128 → t < 64
+      → cell w p t ≡ latest (tb .records) (λ r. post tb r && eqb (tb .one r) p && eqb (tb .two r) t) (tb .four)
+
+-- What the members of `set` move at place p: the weights of those that row p has.
+abbrev pub moved-at : ℕ → List ℕ → List (List ℕ) → ℕ → ℕ
+moved-at set rows w p = sum 64 (λ t. cond (bit set t && bit (getD rows p 0) t) (cell w p t) 0)
+
+pub record Moved (set : ℕ) (rows : List ℕ) (w : List (List ℕ)) (r : List ℕ) : Type 0 where
+  pub holds : (p : ℕ) → p < 128 → getD r p 0 ≡ moved-at set rows w p

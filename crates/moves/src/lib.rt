@@ -1,0 +1,80 @@
+// What a set of transitions moves at each place: the post arcs' weights, and the tokens that the members of a set move by the arcs of a row.
+use records::Rec;
+ghost use mathlib.Core.Bool.{cond, _&&_};
+ghost use mathlib.Core.Path.{_≡_};
+ghost use Prim.Native.Nat.{_≤_};
+ghost use lib.Dec.{eqb, ltb};
+ghost use lib.ListN.{getD};
+ghost use Rattle.meaning.specs.Below.{sum};
+ghost use Rattle.meaning.specs.Bytes.{bit};
+ghost use Rattle.meaning.specs.Table.{table};
+ghost use Rattle.moves.specs.Moves.{Posts, Moved};
+
+// Is x a post arc, from a transition below 64 to a place below 128?
+fn post(x: Rec) -> bool
+    ensures { λ b. ⌜ b ≡ (eqb (x .kind) 3 && eqb (x .sort) 3 && ltb (x .one) 128 && ltb (x .two) 64) ⌝ }
+{
+    if x.kind == 3 {
+        if x.sort == 3 {
+            if x.one < 128 { x.two < 64 } else { false }
+        } else {
+            false
+        }
+    } else {
+        false
+    }
+}
+
+// The weight of the post arc from each transition to each place, 0 where there is none.
+pub fn posts(t: &[u8]) -> [[u16; 64]; 128]
+    ensures { λ w. ⌜ Posts (table (now (t .entry))) w ⌝ }
+{
+    let n = t.len() / 8;
+    let mut w = [[0u16; 64]; 128];
+    let mut r = 0;
+    while r < n {
+        let x = records::read(t, r);
+        let one = records::wide(x.one);
+        let two = records::wide(x.two);
+        if post(x) {
+            w[one][two] = x.four;
+        }
+        r += 1;
+    }
+    w
+}
+
+// A weight as a number of tokens.
+fn wide(x: u16) -> u32
+    ensures { λ r. ⌜ (r ≡ x) × (r ≤ 65535) ⌝ }
+{
+    x as u32
+}
+
+// The weights in a place's row of the members of `both`, added up: the members are taken out one by one, the lowest first.
+fn at_place(both: u64, row: &[u16; 64]) -> u32
+    ensures { λ r. ⌜ r ≡ sum 64 (λ t. cond (bit both t) (getD (now (row .entry)) t 0) 0) ⌝ }
+{
+    let mut left = both;
+    let mut t = sets::lowest(left);
+    let mut moved: u32 = 0;
+    while t < 64 {
+        moved += wide(row[t]);
+        left = sets::without(left, t);
+        t = sets::lowest(left);
+    }
+    moved
+}
+
+// What the members of `set` move at each place, by the arcs that row p has.
+pub fn moved(set: u64, rows: &[u64; 128], w: &[[u16; 64]; 128]) -> [u32; 128]
+    ensures { λ r. ⌜ Moved set (now (rows .entry)) (now (w .entry)) r ⌝ }
+{
+    let mut r = [0u32; 128];
+    let mut p = 0;
+    while p < 128 {
+        r[p] = at_place(set & rows[p], &w[p]);
+        p += 1;
+    }
+    r
+}
