@@ -1,0 +1,33 @@
+-- The falling edge's counters, and which transitions are firable, read off arrays and sets.
+use mathlib.Core.Bool.{Bool, cond, not, _&&_, _||_}
+use mathlib.Core.List.{List}
+use Prim.Native.Nat.{ℕ, suc}
+use lib.Dec.{leb, ltb, eqb}
+use lib.ListN.{getD}
+use Rattle.meaning.specs.Below.{some}
+use Rattle.meaning.specs.Bytes.{bit}
+use Rattle.timing.specs.declared.Intervals.{Intervals}
+
+-- The counter of a transition of this sort, a and b after the falling edge: untimed it stays; not enabled it is 0; with a reset order 1; else
+-- sort 1 rises by one if at most b, sort 2 if below a.
+unfoldable pub fallen : ℕ → ℕ → ℕ → Bool → Bool → ℕ → ℕ
+fallen sort a b on order c = cond (eqb sort 0) c (cond on (cond order 1 (cond (cond (eqb sort 1) (leb c b) (ltb c a)) (suc c) c)) 0)
+
+-- The same of transition t, from the arrays: counters, the set with reset orders, the set of the enabled.
+abbrev pub fallen-at : Intervals → List ℕ → ℕ → ℕ → ℕ → ℕ
+fallen-at x counters orders on t =
+    fallen (getD (x .sorts) t 0) (getD (x .a) t 0) (getD (x .b) t 0) (bit on t) (bit orders t) (getD counters t 0)
+
+-- The counter is in time: untimed; else at least a and, for sort 1, at most b.
+unfoldable pub timely : ℕ → ℕ → ℕ → ℕ → Bool
+timely sort a b c = eqb sort 0 || (leb a c && (eqb sort 2 || leb c b))
+
+-- No condition wanted true is false in the word, and none wanted false is true.
+unfoldable pub as-asked : ℕ → ℕ → ℕ → Bool
+as-asked truths falses word = not (some 64 (λ k. bit truths k && not (bit word k))) && not (some 64 (λ k. bit falses k && bit word k))
+
+-- Transition t is firable: enabled, its conditions as wanted, in time.
+abbrev pub firable-at : Intervals → List ℕ → ℕ → List ℕ → List ℕ → ℕ → ℕ → Bool
+firable-at x counters on truths falses word t =
+    bit on t && as-asked (getD truths t 0) (getD falses t 0) word
+    && timely (getD (x .sorts) t 0) (getD (x .a) t 0) (getD (x .b) t 0) (getD counters t 0)
