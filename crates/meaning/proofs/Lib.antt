@@ -25,6 +25,7 @@ pub mod Fired
 pub mod Pays
 pub mod Sequence
 pub mod Fits
+pub mod Near
 pub mod Source
 -- runs and outcomes
 pub mod Run

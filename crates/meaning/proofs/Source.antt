@@ -1,43 +1,33 @@
 -- Stopping a sort 2 counter at a changes no firability: the stopped counter is the lesser of the source's and a, and firability asks only
 -- whether it has reached a.
-use mathlib.Core.Bool.{Bool, true, false, cond, not, _&&_, _||_}
+use mathlib.Core.Bool.{Bool, true, false, cond, _&&_}
 use mathlib.Core.List.{List}
 use mathlib.Core.Logic.{⊎-elim}
 use mathlib.Core.Path.{_≡_, refl, sym, ap, _∙_}
-use Prim.Native.Nat.{ℕ, zero, suc, _-_, min, _≤_, _<_}
+use Prim.Native.Nat.{ℕ, suc, min, _≤_, _<_}
 use native.Mathlib.Omega.{arith}
-use lib.Dec.{ltb, leb, eqb}
+use lib.Dec.{ltb, leb}
 use borrow.Author.Tests.{ltb-true, ltb-false, leb-true, leb-false, le-leb, lt-leb}
-use Rattle.meaning.specs.Below.{members, within}
-use Rattle.meaning.specs.Table.{Table, basic, test, transition, timing, a-of, ceiling}
-use Rattle.meaning.specs.Priority.{above}
+use Rattle.meaning.specs.Below.{within}
+use Rattle.meaning.specs.Table.{Table, transition, timing, a-of, ceiling}
 use Rattle.meaning.specs.Image.{State, state, image, image-bytes, most}
-use Rattle.meaning.specs.Cycle.{enabled, risen, counted, falling, in-time, firable, withdrawn, residual, rule, rounds, fired, marked, starved, reset, rising, cycle}
+use Rattle.meaning.specs.Cycle.{enabled, risen, counted, falling, in-time, firable, fired, marked, rising, cycle}
 use Rattle.meaning.specs.Steps.{Steps, Stays}
 use Rattle.meaning.specs.Source.{source-counted, source-falling, source-cycle, source-run, stopped-at-a, Follows}
-use Rattle.meaning.proofs.Bool.{either, and-left, or-cases}
-use Rattle.meaning.proofs.Below.{some-same, members-same}
+use Rattle.meaning.proofs.Bool.{either}
 use Rattle.meaning.proofs.Well.{Well}
-use Rattle.meaning.proofs.Enabled.{arc-is}
-use Rattle.meaning.proofs.Fired.{and-same, enabled-same}
+use Rattle.meaning.proofs.Near.{enabled-near, resets-near, fired-near}
+use Rattle.meaning.proofs.Fired.{and-same}
 use Rattle.meaning.proofs.Image.{tokens-back, counter-back, order-back}
 use Rattle.meaning.proofs.Fits.{Fits, sorts, fits-counter, counter-low, fits-after}
 
 module _ (tb : Table) (well : Well tb) where
-  -- Places that arcs name are below 128.
-  near : (r : ℕ) → r < tb .records → tb .kind r ≡ 3 → tb .one r < 128
-  near r h k = well .place-known (tb .one r) (well .arc-place r h k)
-
-  -- Markings that agree on the places enable the same.
-  enabled-near : (m n : ℕ → ℕ) → ((p : ℕ) → p < 128 → m p ≡ n p) → (t : ℕ) → enabled tb m t ≡ enabled tb n t
-  enabled-near m n f t = enabled-same tb m n t (λ r h k e. f (tb .one r) (near r h k))
-
   module _ (z s : State) (follows : Follows tb z s) where
     -- The falling edge keeps the two together.
     counters-follow : (t : ℕ) → t < 64 → counted tb s t ≡ stopped-at-a tb t (source-counted tb z t)
     unfolding counted risen source-counted stopped-at-a
     counters-follow t h =
-        let on : enabled tb (s .tokens) t ≡ enabled tb (z .tokens) t = enabled-near (s .tokens) (z .tokens) (follows .tokens) t in
+        let on : enabled tb (s .tokens) t ≡ enabled tb (z .tokens) t = enabled-near tb well (s .tokens) (z .tokens) (follows .tokens) t in
         ⊎-elim (λ (e : timing tb t ≡ 0). rw e (rw e at (follows .counter t h)))
         (⊎-elim
         (λ (e : timing tb t ≡ 1).
@@ -87,49 +77,20 @@ module _ (tb : Table) (well : Well tb) where
     firable-follows word t =
         and-same (transition tb t) _ _
         (λ d.
-        rw (enabled-near (s .tokens) (z .tokens) (follows .tokens) t, in-time-follows t (well .transition-known t d)))
+        rw (enabled-near tb well (s .tokens) (z .tokens) (follows .tokens) t, in-time-follows t (well .transition-known t d)))
 
-    -- The same rounds of definition 6, and so the same fired set.
-    rounds-follow : (able : ℕ → Bool) (k : ℕ) → rounds tb (s .tokens) able k ≡ rounds tb (z .tokens) able k
-    unfolding rounds rule residual
-    rounds-follow able zero = refl
-    rounds-follow able (suc k) =
-        members-same 64 (rule tb (s .tokens) able (within (rounds tb (s .tokens) able k))) (rule tb (z .tokens) able (within (rounds tb (s .tokens) able k)))
-        (λ t h.
-        ap (λ (b : Bool). able t && b)
-        (enabled-near _ _
-        (λ p near-p. ap (λ (x : ℕ). x - withdrawn tb (λ u. within (rounds tb (s .tokens) able k) u && above tb u t) p) (follows .tokens p near-p))
-        t))
-        ∙ ap (λ (F : List ℕ). members 64 (rule tb (z .tokens) able (within F))) (rounds-follow able k)
-
+    -- The same set fires.
     pub fired-follows : (word : ℕ) → fired tb s word ≡ fired tb z word
-    unfolding fired
-    fired-follows word =
-        rounds-follow (within (members 64 (firable tb s word))) 64
-        ∙ ap (λ (able : List ℕ). rounds tb (z .tokens) (within able) 64)
-        (members-same 64 (firable tb s word) (firable tb z word) (λ t h. firable-follows word t))
+    fired-follows word = fired-near tb well z s word (follows .tokens) (firable-follows word)
 
     -- The rising edge keeps the two together.
-    resets-follow : (F : ℕ → Bool) (t : ℕ) → reset tb (s .tokens) F t ≡ reset tb (z .tokens) F t
-    unfolding reset starved
-    resets-follow F t =
-        ap (λ (b : Bool). not (eqb (timing tb t) 0) && (F t || b))
-        (some-same (tb .records) _ _
-        (λ r h. and-same ((basic tb r || test tb r) && eqb (tb .two r) t) _ _
-        (λ e.
-        ap (λ (x : ℕ). ltb 0 (withdrawn tb F (tb .one r)) && ltb (x - withdrawn tb F (tb .one r)) (tb .four r))
-        (follows .tokens (tb .one r) (near r h (input r (and-left (basic tb r || test tb r) _ e)))))))
-      where
-        input : (r : ℕ) → (basic tb r || test tb r) ≡ true → tb .kind r ≡ 3
-        input r e = ⊎-elim (λ b. arc-is tb 0 r b .0) (λ b. arc-is tb 1 r b .0) (or-cases (basic tb r) (test tb r) e)
-
     pub rising-follows : (F : ℕ → Bool) → Follows tb (rising tb z F) (rising tb s F)
     unfolding rising marked
     rising-follows F =
         record {
           tokens = λ p h. rw (follows .tokens p h);
           counter = follows .counter;
-          order = λ t h. resets-follow F t;
+          order = λ t h. resets-near tb well (s .tokens) (z .tokens) (follows .tokens) F t;
         }
 
   -- A state that is written to an image and read back is followed by it.

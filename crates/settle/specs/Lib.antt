@@ -1,0 +1,2 @@
+-- What the marking after a step is.
+pub mod Settle
