@@ -13,7 +13,7 @@ use Rattle.meaning.specs.Below.{some, first}
 use Rattle.meaning.specs.Bytes.{bit}
 use Rattle.meaning.proofs.Bool.{not-both}
 use Rattle.meaning.proofs.Below.{some-intro, some-elim, none-intro, some-same, first-before, first-passes}
-use Rattle.sets.proofs.Bits.{bit-zero, bit-least, bit-less, same-set, zero-set}
+use Rattle.sets.proofs.Bits.{bit-zero, bit-least, bit-less, bit-out, same-set, zero-set}
 use Rattle.enabled.specs.Inputs.{Spread}
 
 -- The lowest member of a word that is not empty is below 64, and is in the word.
@@ -55,6 +55,45 @@ module _ (a k b : ℕ) (rest : (j : ℕ) → bit b j ≡ (bit a j && not (eqb k 
       go true q = rw (← eqb-true k t q, getD-set-same words k v 0 h, gains j, rest k, e, eq-eqb k k refl) (or-false _)
       go false q = rw (getD-set-other words k t v 0 (λ z. eqb-false k t q (sym z)), rest t, q, and-true (bit a t))
 
+  -- Member k is kept if it passes: what is kept or is still to be kept stays the same.
+  pub kept : (f : ℕ → Bool) (r after : ℕ) (y : Bool) → k < 64 → bit a k ≡ true → y ≡ f k
+      → ((j : ℕ) → bit after j ≡ (bit r j || (y && (eqb k j && ltb k 64)))) → (t : ℕ)
+      → (bit after t || (bit b t && f t)) ≡ (bit r t || (bit a t && f t))
+  kept f r after y h e passes gains t = go (eqb k t) refl
+    where
+      go : (x : Bool) → eqb k t ≡ x → (bit after t || (bit b t && f t)) ≡ (bit r t || (bit a t && f t))
+      go true q =
+          rw (← eqb-true k t q, gains k, rest k, e, eq-eqb k k refl, lt-ltb k 64 h, and-true y, passes) (or-false _)
+      go false q = rw (gains t, rest t, q, and-false y, or-false (bit r t), and-true (bit a t))
+
+-- Before the first turn nothing is kept, and with nothing left all that pass are.
+pub none-kept : (known t : ℕ) (x : Bool) → (bit 0 t || (bit known t && x)) ≡ (bit known t && x)
+none-kept known t x = rw (bit-zero t)
+
+pub all-kept : (f : ℕ → Bool) (known left r t : ℕ) → known < 2 ^ 64 → left ≡ 0 → (bit r t || (bit left t && f t)) ≡ (bit known t && f t)
+    → bit r t ≡ (ltb t 64 && (bit known t && f t))
+all-kept f known left r t h e q = sym (rw (e, bit-zero t) (or-false (bit r t))) ∙ q ∙ go (ltb t 64) refl
+  where
+    go : (x : Bool) → ltb t 64 ≡ x → (bit known t && f t) ≡ (x && (bit known t && f t))
+    go true l = refl
+    go false l = rw (bit-out known t h (ltb-false t 64 l))
+
+-- A walk over the numbers below 64: before the first nothing is kept, and one more is kept if it passes.
+pub no-number : (f : ℕ → Bool) (t : ℕ) → bit 0 t ≡ (ltb t 0 && f t)
+no-number f t = rw (bit-zero t, le-ltb t 0 (omega arith))
+
+pub next-number : (f : ℕ → Bool) (t p : ℕ) {old new y : Bool} → p < 64 → y ≡ f p → new ≡ (old || (y && (eqb p t && ltb p 64)))
+    → old ≡ (ltb t p && f t) → new ≡ (ltb t (p + 1) && f t)
+next-number f t p h passes gains before = gains ∙ rw (before, passes, lt-ltb p 64 h) (go (ltb t p) (eqb p t) refl refl)
+  where
+    go : (x z : Bool) → ltb t p ≡ x → eqb p t ≡ z → ((x && f t) || (f p && (z && true))) ≡ (ltb t (p + 1) && f t)
+    go true true e q = absurd (omega (arith, ltb-true t p e, eqb-true p t q))
+    go true false e q = rw (lt-ltb t (p + 1) (omega (arith, ltb-true t p e)), and-false (f p)) (or-false (f t))
+    go false true e q = rw (lt-ltb t (p + 1) (omega (arith, eqb-true p t q)), and-true (f p)) (ap f (eqb-true p t q))
+    go false false e q =
+        let apart : ¬ (p ≡ t) = eqb-false p t q in
+        rw (le-ltb t (p + 1) (omega (arith, ltb-false t p e)), and-false (f p))
+
 -- A member that passes the test is an answer, and the empty word has none.
 pub found : (a k : ℕ) (f : ℕ → Bool) → k < 64 → bit a k ≡ true → f k ≡ true → some 64 (λ p. bit a p && f p) ≡ true
 found a k f h e q = some-intro 64 (λ p. bit a p && f p) k h (Rattle.meaning.proofs.Bool.and-true e q)
@@ -76,15 +115,4 @@ pub one-more : (index words after : List ℕ) (from p : ℕ) → p < 64
     → Spread words (getD index (from + p) 0) p after
     → (t q : ℕ) → t < 64 → q < 64 → bit (getD after t 0) q ≡ (ltb q (p + 1) && bit (getD index (from + q) 0) t)
 one-more index words after from p h before s t q ht hq =
-    s .holds t q ht ∙ rw (before t q ht hq, lt-ltb p 64 h) (go (ltb q p) (eqb p q) refl refl)
-  where
-    row : ℕ → Bool
-    row q = bit (getD index (from + q) 0) t
-
-    go : (x y : Bool) → ltb q p ≡ x → eqb p q ≡ y → ((x && row q) || (row p && (y && true))) ≡ (ltb q (p + 1) && row q)
-    go true true e f = absurd (omega (arith, ltb-true q p e, eqb-true p q f))
-    go true false e f = rw (lt-ltb q (p + 1) (omega (arith, ltb-true q p e)), and-false (row p)) (or-false (row q))
-    go false true e f = rw (lt-ltb q (p + 1) (omega (arith, eqb-true p q f)), and-true (row p)) (ap row (eqb-true p q f))
-    go false false e f =
-        let apart : ¬ (p ≡ q) = eqb-false p q f in
-        rw (le-ltb q (p + 1) (omega (arith, ltb-false q p e)), and-false (row p))
+    next-number (λ j. bit (getD index (from + j) 0) t) q p h refl (s .holds t q ht) (before t q ht hq)

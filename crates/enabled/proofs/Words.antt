@@ -19,7 +19,7 @@ some-split m zero p = rw (add-zero m) (sym (or-false (some m p)))
 some-split m (suc n) p = rw (add-suc m n, some-split m n p) (or-assoc (some m p) (some n (λ k. p (m + k))) (p (m + n)))
 
 -- Some place of the two words passes exactly if one of the low word does or one of the high word.
-by-words : (low high : ℕ) (f : ℕ → Bool)
+pub by-words : (low high : ℕ) (f : ℕ → Bool)
     → some 128 (λ p. in-words low high p && f p) ≡ (some 64 (λ p. bit low p && f (0 + p)) || some 64 (λ p. bit high p && f (64 + p)))
 by-words low high f =
     some-split 64 64 (λ p. in-words low high p && f p)

@@ -1,9 +1,9 @@
 // Enabled by a marking: one function, asked with the marking and with the residual.
-ghost use mathlib.Core.Bool.{cond, _&&_};
+ghost use mathlib.Core.Bool.{cond, _&&_, _||_};
 ghost use mathlib.Core.Path.{_≡_};
-ghost use Prim.Native.Nat.{_+_, _≤_, _<_};
+ghost use Prim.Native.Nat.{ℕ, _+_, _≤_, _<_};
 ghost use lib.Dec.{leb, ltb, eqb};
-ghost use lib.ListN.{length};
+ghost use lib.ListN.{length, getD};
 ghost use Rattle.meaning.specs.Below.{some};
 ghost use Rattle.meaning.specs.Bytes.{bit};
 ghost use Rattle.enabled.specs.Inputs.{Inputs-of, Spread, Half, stops-at, enabled-by};
@@ -106,4 +106,47 @@ pub fn enabled(
         return false;
     }
     !stopped(m, w, s, high, 64, t)
+}
+
+// s, and k where it passes and is below 64.
+pub fn with_if(s: u64, k: usize, passes: bool) -> u64
+    ensures { λ r. ⌜ ((j : ℕ) → bit r j ≡ (bit s j || (passes && (eqb k j && ltb k 64)))) ⌝ }
+{
+    if passes { sets::with(s, k) } else { s }
+}
+
+// The known transitions that marking m enables.
+pub fn all_enabled(
+    m: &[u32; 128],
+    w: &[[u16; 64]; 128],
+    s: &[[u8; 64]; 128],
+    low: &[u64; 64],
+    high: &[u64; 64],
+    known: u64,
+) -> u64
+    ensures { λ r. ⌜ ((t : ℕ) → bit r t ≡ (ltb t 64 && (bit known t && enabled-by (now (m .entry)) (now (w .entry)) (now (s .entry)) (getD (now (low .entry)) t 0) (getD (now (high .entry)) t 0) t))) ⌝ }
+{
+    let mut r = 0u64;
+    let mut left = known;
+    while left != 0 {
+        let t = sets::lowest(left);
+        let passes = enabled(m, w, s, low[t], high[t], t);
+        r = with_if(r, t, passes);
+        left = sets::without(left, t);
+    }
+    r
+}
+
+// The declared transitions: rows 128 to 191 of the index have one each, at 0.
+pub fn known(index: &[u64; 768]) -> u64
+    ensures { λ r. ⌜ ((t : ℕ) → t < 64 → bit r t ≡ bit (getD (now (index .entry)) (128 + t) 0) 0) ⌝ }
+{
+    let mut r = 0u64;
+    let mut t = 0;
+    while t < 64 {
+        let passes = sets::has(index[128 + t], 0);
+        r = with_if(r, t, passes);
+        t += 1;
+    }
+    r
 }

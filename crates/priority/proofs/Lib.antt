@@ -2,3 +2,4 @@
 pub mod Round
 pub mod Warshall
 pub mod Carry
+pub mod Walk

@@ -4,7 +4,8 @@ use mathlib.Core.List.{List}
 use mathlib.Core.Logic.{_↔_}
 use mathlib.Core.Path.{_≡_}
 use Prim.Native.Nat.{ℕ, _+_, _≤_, _<_}
-use lib.ListN.{getD}
+use lib.Dec.{ltb, eqb}
+use lib.ListN.{length, getD}
 use Rattle.meaning.specs.Bytes.{bit}
 
 -- u stands above t by a chain of written pairs, all of them transitions below 64.
@@ -20,3 +21,8 @@ pub record Round (rows : List ℕ) (k : ℕ) (next : List ℕ) : Type 0 where
   pub over : k < 64 → (u t : ℕ) → u < 64 → t < 64
       → bit (getD next u 0) t ≡ (bit (getD rows u 0) t || (bit (getD rows u 0) k && bit (getD rows k 0) t))
   pub still : 64 ≤ k → next ≡ rows
+
+-- What is added: transition u to the set of each transition of the row.
+pub record Spread (above : List ℕ) (row u : ℕ) (after : List ℕ) : Type 0 where
+  pub size : length after ≡ 64
+  pub holds : (t j : ℕ) → t < 64 → bit (getD after t 0) j ≡ (bit (getD above t 0) j || (bit row t && (eqb u j && ltb u 64)))

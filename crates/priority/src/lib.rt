@@ -2,8 +2,9 @@
 ghost use mathlib.Core.Path.{_≡_};
 ghost use Rattle.meaning.specs.Below.{first};
 ghost use Rattle.meaning.specs.Bytes.{bit};
-ghost use lib.ListN.{getD};
-ghost use Rattle.priority.specs.Closed.{Closed, Round};
+ghost use Prim.Native.Nat.{ℕ, _<_};
+ghost use lib.ListN.{length, getD};
+ghost use Rattle.priority.specs.Closed.{Closed, Round, Spread};
 
 // The written pairs, row 512 + u of the index for each higher u, closed: whoever stands above k stands above all that k stands above.
 pub fn close(index: &[u64; 768]) -> [u64; 64]
@@ -57,4 +58,32 @@ pub fn circle(rows: &[u64; 64]) -> usize
         t += 1;
     }
     64
+}
+
+// Adds u to the set of each transition of a row.
+fn spread(above: &mut [u64; 64], row: u64, u: usize)
+    requires { ⌜ length (now above) ≡ 64 ⌝ }
+    ensures { λ _. ⌜ Spread (now (above .entry)) row u (now (above .exit)) ⌝ }
+{
+    let mut left = row;
+    while left != 0 {
+        let t = sets::lowest(left);
+        above[t] = sets::with(above[t], u);
+        left = sets::without(left, t);
+    }
+}
+
+// The rows turned: for each transition the set of those above it.
+pub fn turn(rows: &[u64; 64]) -> [u64; 64]
+    ensures { λ r. ⌜ ((t u : ℕ) → t < 64 → u < 64 → bit (getD r t 0) u ≡ bit (getD (now (rows .entry)) u 0) t) ⌝ }
+{
+    let mut above = [0u64; 64];
+    let mut u = 0;
+    while u < 64 {
+        if rows[u] != 0 {
+            spread(&mut above, rows[u], u);
+        }
+        u += 1;
+    }
+    above
 }

@@ -1,0 +1,125 @@
+-- From the rows to the meaning: what the members above a transition take by the rows is what they withdraw by the table, so a set that fires by the
+-- rows meets definition 6, and only the fired set does.
+use mathlib.Core.Bool.{Bool, true, false, cond, _&&_}
+use mathlib.Core.List.{List, [], _∷_}
+use mathlib.Core.Path.{_≡_, refl, sym, ap, _∙_}
+use Prim.Native.Nat.{ℕ, zero, suc, _-_, _^_, _<_}
+use native.Mathlib.Nat.{not-suc-le-zero, le-of-suc-le-suc}
+use native.Mathlib.Omega.{arith}
+use lib.Bits.{bitAnd}
+use lib.Dec.{eqb, ltb}
+use lib.ListN.{getD}
+use borrow.Author.Tests.{eqb-true, ltb-true, ltb-false}
+use Rattle.meaning.specs.Below.{within}
+use Rattle.meaning.specs.Bytes.{bit}
+use Rattle.meaning.specs.Table.{Table, is, transition}
+use Rattle.meaning.specs.Priority.{above}
+use Rattle.meaning.specs.Image.{State}
+use Rattle.meaning.specs.Cycle.{enabled, firable, withdrawn, residual, rule, fired, as-wanted, in-time}
+use Rattle.meaning.proofs.Bool.{and-left, and-right}
+use Rattle.meaning.proofs.Below.{sum-zero}
+use Rattle.meaning.proofs.Well.{Well}
+use Rattle.meaning.proofs.Fired.{and-same, enabled-same, withdrawn-same, height, height-falls, height-bound, firable-out, fired-only}
+use Rattle.sets.proofs.Bits.{bit-zero, bit-and, bit-out}
+use Rattle.enabled.specs.Inputs.{enabled-by}
+use Rattle.moves.specs.Moves.{moved-at}
+use Rattle.fire.specs.Fired.{left-enabled, pays, Ranks, Fires}
+use Rattle.fire.proofs.Rounds.{left-same}
+
+-- The list of f's first n values.
+listed : ℕ → (ℕ → ℕ) → List ℕ
+listed zero f = []
+listed (suc n) f = f 0 ∷ listed n (λ k. f (suc k))
+
+listed-at : (n : ℕ) (f : ℕ → ℕ) (k : ℕ) → k < n → getD (listed n f) k 0 ≡ f k
+unfolding listed
+listed-at zero f k h = absurd (not-suc-le-zero h)
+listed-at (suc n) f zero h = refl
+listed-at (suc n) f (suc k) h = listed-at n (λ k. f (suc k)) k (le-of-suc-le-suc h)
+
+-- Rows that say who stands above whom by the table.
+abbrev pub Above : Table → List ℕ → Type 0
+Above tb higher = (t u : ℕ) → t < 64 → u < 64 → bit (getD higher t 0) u ≡ above tb u t
+
+module _ (tb : Table) (ok : Well tb) (higher : List ℕ) (is-above : Above tb higher) where
+  -- A transition's rank is how many stand above it.
+  pub well-ranks : Ranks higher
+  well-ranks =
+      record {
+        rank = height tb;
+        low = height-bound tb ok;
+        falls = λ t u h v e. height-falls tb ok u t v h (sym (is-above t u h v) ∙ e);
+      }
+
+  module _ (s : State) (word able : ℕ) (m : List ℕ) (w sorts : List (List ℕ)) (takers low high : List ℕ)
+      (is-able : (t : ℕ) → t < 64 → bit able t ≡ firable tb s word t) (tokens : (p : ℕ) → p < 128 → getD m p 0 ≡ s .tokens p)
+      (takes : (g p : ℕ) → p < 128 → moved-at g takers w p ≡ withdrawn tb (bit g) p)
+      (enables : (n : List ℕ) (t : ℕ) → t < 64 → enabled-by n w sorts (getD low t 0) (getD high t 0) t ≡ enabled tb (λ p. getD n p 0) t) where
+    -- What a set leaves is what it leaves by the table.
+    left-is : (g t : ℕ) → t < 64
+        → left-enabled m w sorts takers (getD low t 0) (getD high t 0) g t ≡ enabled tb (λ p. s .tokens p - withdrawn tb (bit g) p) t
+    left-is g t h =
+        sym (left-same m rest w sorts takers (getD low t 0) (getD high t 0) g t (listed-at 128 _))
+        ∙ enables rest t h
+        ∙ enabled-same tb _ _ t
+        (λ r l k e.
+        let place = ok .place-known (tb .one r) (ok .arc-place r l k) in
+        listed-at 128 _ (tb .one r) place ∙ rw (tokens (tb .one r) place, takes g (tb .one r) place))
+      where
+        rest : List ℕ
+        rest = listed 128 (λ p. getD m p 0 - moved-at g takers w p)
+
+    -- The empty set takes nothing.
+    none-taken : (p : ℕ) → p < 128 → withdrawn tb (bit 0) p ≡ 0
+    none-taken p h = sym (takes 0 p h) ∙ sum-zero 64 _ (λ t l. rw (bit-zero t))
+
+    -- So a firable transition pays exactly if it is enabled by what the set leaves.
+    pays-is : (g t : ℕ) → t < 64 → firable tb s word t ≡ true
+        → pays m w sorts takers low high g t ≡ enabled tb (λ p. s .tokens p - withdrawn tb (bit g) p) t
+    unfolding pays firable
+    pays-is g t h e = go (eqb g 0) refl
+      where
+        on : enabled tb (s .tokens) t ≡ true
+        on =
+            let rest = and-right (transition tb t) (enabled tb (s .tokens) t && as-wanted tb word t && in-time tb (s .counter t) t) e in
+            and-left _ (as-wanted tb word t) (and-left _ (in-time tb (s .counter t) t) rest)
+
+        go : (b : Bool) → eqb g 0 ≡ b
+            → cond b true (left-enabled m w sorts takers (getD low t 0) (getD high t 0) g t)
+            ≡ enabled tb (λ p. s .tokens p - withdrawn tb (bit g) p) t
+        go true z =
+            sym on
+            ∙ enabled-same tb _ _ t
+            (λ r l k e.
+            let place = ok .place-known (tb .one r) (ok .arc-place r l k) in
+            rw (eqb-true g 0 z, none-taken (tb .one r) place) (omega arith))
+        go false z = left-is g t h
+
+    -- The members of r above t, as a set and by the table.
+    residual-is : (r t : ℕ) → t < 64
+        → enabled tb (λ p. s .tokens p - withdrawn tb (bit (bitAnd r (getD higher t 0))) p) t ≡ enabled tb (residual tb (s .tokens) (bit r) t) t
+    unfolding residual
+    residual-is r t h =
+        enabled-same tb _ _ t
+        (λ q l k e.
+        ap (λ (x : ℕ). s .tokens (tb .one q) - x)
+        (withdrawn-same tb _ _ (tb .one q)
+        (λ a v b.
+        let u : ℕ = tb .two a in
+        let arc : tb .kind a ≡ 3 = eqb-true (tb .kind a) 3 (and-left (is tb 3 a) (eqb (tb .sort a) 0) b) in
+        bit-and r (getD higher t 0) u ∙ rw (is-above t u h (ok .arc-transition a v arc)))))
+
+    -- A set that fires by the rows is the fired set.
+    pub fires-is : (r : ℕ) → r < 2 ^ 64 → Fires able higher m w sorts takers low high r → (t : ℕ) → bit r t ≡ within (fired tb s word) t
+    unfolding rule
+    fires-is r small f = fired-only tb ok s word (bit r) (λ t. go t (ltb t 64) refl)
+      where
+        go : (t : ℕ) (b : Bool) → ltb t 64 ≡ b → bit r t ≡ rule tb (s .tokens) (firable tb s word) (bit r) t
+        go t true e =
+            let h = ltb-true t 64 e in
+            f .meets t h
+            ∙ rw (is-able t h)
+            (and-same (firable tb s word t) _ _ (λ a. pays-is (bitAnd r (getD higher t 0)) t h a ∙ residual-is r t h))
+        go t false e =
+            let h = ltb-false t 64 e in
+            bit-out r t small h ∙ rw (firable-out tb ok s word t h)

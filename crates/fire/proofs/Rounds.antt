@@ -1,0 +1,171 @@
+-- One round keeps what the fired set has to meet: a decided transition has none of those left above it, so what it was decided by stays as it was.
+use mathlib.Core.Bool.{Bool, true, false, cond, not, _&&_, _||_, and-true, and-false, or-false}
+use mathlib.Core.List.{List}
+use mathlib.Core.Path.{_≡_, refl, sym, ap, _∙_}
+use Prim.Native.Nat.{ℕ, _+_, _-_, _<_, _^_}
+use native.Mathlib.Nat.{not-suc-le-zero, lt-of-le-of-lt}
+use native.Mathlib.Omega.{arith}
+use lib.Bits.{bitAnd, and-le-l}
+use lib.Dec.{eqb, ltb}
+use lib.ListN.{getD}
+use borrow.Author.Tests.{eqb-true, eq-eqb, ne-eqb, lt-ltb}
+use Rattle.meaning.specs.Bytes.{bit}
+use Rattle.meaning.proofs.Bool.{not-both, and-left, and-right}
+use Rattle.meaning.proofs.Below.{some-same, none-intro, none-elim}
+use Rattle.sets.proofs.Bits.{bit-zero, bit-and, same-set}
+use Rattle.enabled.specs.Inputs.{enabled-by}
+use Rattle.moves.specs.Moves.{moved-at, Moved}
+use Rattle.fire.specs.declared.Split.{Split}
+use Rattle.fire.specs.Fired.{left-enabled, pays, Ranks, Fires}
+use Rattle.fire.specs.Round.{Round, waits-for}
+
+-- Whoever the rest of the marking enables is enabled by what the set g leaves.
+pub left-same : (m rest : List ℕ) (w s : List (List ℕ)) (takers : List ℕ) (low high g t : ℕ)
+    → ((p : ℕ) → p < 128 → getD rest p 0 ≡ getD m p 0 - moved-at g takers w p)
+    → enabled-by rest w s low high t ≡ left-enabled m w s takers low high g t
+unfolding enabled-by left-enabled
+left-same m rest w s takers low high g t e = ap not (some-same 128 _ _ (λ p h. rw (e p h)))
+
+-- So where something is taken, the rest answers for t.
+pub rest-says : (m taken rest : List ℕ) (w s : List (List ℕ)) (takers : List ℕ) (low high g t : ℕ) (b : Bool) → t < 64 → ¬ (g ≡ 0)
+    → Moved g takers w taken → ((p : ℕ) → p < 128 → getD rest p 0 ≡ getD m p 0 - getD taken p 0)
+    → b ≡ (ltb t 64 && enabled-by rest w s low high t) → b ≡ cond (eqb g 0) true (left-enabled m w s takers low high g t)
+rest-says m taken rest w s takers low high g t b h n moved less says =
+    rw (ne-eqb g 0 n)
+    (says ∙ rw (lt-ltb t 64 h) (left-same m rest w s takers low high g t (λ p l. less p l ∙ rw (moved .holds p l))))
+
+-- A walk over the members of `left` has `todo` to come: x has what the base has, and those passed of which f holds.
+abbrev pub Passed : ℕ → ℕ → ℕ → (ℕ → Bool) → ℕ → Type 0
+Passed base left todo f x = (t : ℕ) → t < 64 → bit x t ≡ (bit base t || ((bit left t && not (bit todo t)) && f t))
+
+-- Nobody is passed at the start, and all are at the end.
+pub none-passed : (base left : ℕ) (f : ℕ → Bool) → Passed base left left f base
+none-passed base left f t h = rw (neither (bit left t)) (sym (or-false (bit base t)))
+  where
+    neither : (b : Bool) → (b && not b) ≡ false
+    neither true = refl
+    neither false = refl
+
+pub all-passed : (base left todo : ℕ) (f : ℕ → Bool) (x : ℕ) → todo ≡ 0 → Passed base left todo f x
+    → (t : ℕ) → t < 64 → bit x t ≡ (bit base t || (bit left t && f t))
+all-passed base left todo f x e p t h = p t h ∙ rw (e, bit-zero t, and-true (bit left t))
+
+-- Member k is passed.
+pub one-passed : (base left todo : ℕ) (f : ℕ → Bool) (x k after next : ℕ) (said : Bool) → k < 64 → bit todo k ≡ true → bit left k ≡ true
+    → ((j : ℕ) → bit next j ≡ (bit todo j && not (eqb k j)))
+    → ((j : ℕ) → bit after j ≡ (bit x j || (said && (eqb k j && ltb k 64)))) → said ≡ f k
+    → Passed base left todo f x → Passed base left next f after
+one-passed base left todo f x k after next said l mine has rest gains same p t h = gains t ∙ go (eqb k t) refl
+  where
+    go : (b : Bool) → eqb k t ≡ b → (bit x t || (said && (eqb k t && ltb k 64))) ≡ (bit base t || ((bit left t && not (bit next t)) && f t))
+    go true e = rw (← eqb-true k t e, p k l, rest k, mine, has, eq-eqb k k refl, lt-ltb k 64 l, same) (here (bit base k) (f k))
+      where
+        here : (a b : Bool) → ((a || false) || (b && true)) ≡ (a || b)
+        here true b = refl
+        here false b = and-true b
+    go false e = rw (e, rest t, e, and-true (bit todo t), and-false said, or-false (bit x t)) (p t h)
+
+-- Transition t stays enabled by what the members of `out` above it leave.
+abbrev pub keeps : List ℕ → List ℕ → List (List ℕ) → List (List ℕ) → List ℕ → List ℕ → List ℕ → ℕ → ℕ → Bool
+keeps higher m w s takers low high out t = pays m w s takers low high (bitAnd out (getD higher t 0)) t
+
+module _ (able : ℕ) (higher m : List ℕ) (w s : List (List ℕ)) (takers low high : List ℕ) where
+  -- After k rounds: those of rank below k are decided, and who is decided meets the rule and has none of those left above it.
+  pub record Decided (k left out : ℕ) : Type 0 where
+    pub ranks : Ranks higher
+    pub gone : (t : ℕ) → t < 64 → ranks .rank t < k → bit left t ≡ false
+    pub opens : (t : ℕ) → t < 64 → bit left t ≡ true → (bit able t ≡ true) × (bit out t ≡ false)
+    pub clear : (t u : ℕ) → t < 64 → u < 64 → bit able t ≡ true → bit left t ≡ false → bit (getD higher t 0) u ≡ true → bit left u ≡ false
+    pub meets : (t : ℕ) → t < 64 → bit left t ≡ false → bit out t ≡ (bit able t && keeps higher m w s takers low high out t)
+
+  -- At the start all are left.
+  pub at-start : Ranks higher → Decided 0 able 0
+  at-start r =
+      record {
+        ranks = r;
+        gone = λ t h l. absurd (not-suc-le-zero l);
+        opens = λ t h e. (e, bit-zero t);
+        clear = λ t u h l e n a. not-both e n;
+        meets = λ t h e. rw e (bit-zero t);
+      }
+
+module _ {able : ℕ} {higher m : List ℕ} {w s : List (List ℕ)} {takers low high : List ℕ} {k left out : ℕ}
+    (d : Decided able higher m w s takers low high k left out) where
+  -- With none left the set meets the rule.
+  pub at-end : ((t : ℕ) → t < 64 → bit left t ≡ false) → Fires able higher m w s takers low high out
+  at-end none = record { meets = λ t h. d .meets t h (none t h) }
+
+  module _ {x : Split} (r : Round left out higher m w s takers low high x) (small : out < 2 ^ 64) (small′ : x .out < 2 ^ 64) where
+    abbrev keep : ℕ → ℕ → Bool
+    keep = keeps higher m w s takers low high
+
+    -- Whoever has none of those left above it does not wait.
+    free : (t : ℕ) → ((u : ℕ) → u < 64 → bit (getD higher t 0) u ≡ true → bit left u ≡ false) → waits-for higher left t ≡ false
+    free t none = none-intro 64 _ (λ u h. go u h (bit (getD higher t 0) u) refl)
+      where
+        go : (u : ℕ) → u < 64 → (b : Bool) → bit (getD higher t 0) u ≡ b → (b && bit left u) ≡ false
+        go u h true e = none u h e
+        go u h false e = refl
+
+    -- And who does not wait has none of those left above it.
+    unled : (t u : ℕ) → u < 64 → waits-for higher left t ≡ false → bit (getD higher t 0) u ≡ true → bit left u ≡ false
+    unled t u h e a = rw a at (none-elim 64 (λ v. bit (getD higher t 0) v && bit left v) e u h)
+
+    -- Who is decided stays so, in or out of the fired.
+    left-out : (u : ℕ) → u < 64 → bit left u ≡ false → bit (x .left) u ≡ false
+    left-out u h e = r .waits u h ∙ rw e
+
+    out-same : (u : ℕ) → u < 64 → bit left u ≡ false → bit (x .out) u ≡ bit out u
+    out-same u h e = r .fires u h ∙ rw e (or-false (bit out u))
+
+    -- So the fired ones above t stay the same, where none of those left stands above t.
+    keeps-same : (t : ℕ) → ((u : ℕ) → u < 64 → bit (getD higher t 0) u ≡ true → bit left u ≡ false) → keep out t ≡ keep (x .out) t
+    keeps-same t none =
+        ap (λ (g : ℕ). pays m w s takers low high g t)
+        (same-set (bitAnd out a) (bitAnd (x .out) a) (lt-of-le-of-lt (and-le-l out a) small) (lt-of-le-of-lt (and-le-l (x .out) a) small′)
+        (λ u h. bit-and out a u ∙ go u h (bit a u) refl ∙ sym (bit-and (x .out) a u)))
+      where
+        a : ℕ
+        a = getD higher t 0
+
+        go : (u : ℕ) → u < 64 → (b : Bool) → bit a u ≡ b → (bit out u && bit a u) ≡ (bit (x .out) u && bit a u)
+        go u h true e = rw (out-same u h (none u h e))
+        go u h false e = rw (e, and-false (bit out u)) (sym (and-false (bit (x .out) u)))
+
+    -- What is decided in this round or before has none of those left above it.
+    none-above : (t : ℕ) → t < 64 → bit able t ≡ true → bit (x .left) t ≡ false → (b : Bool) → bit left t ≡ b
+        → (u : ℕ) → u < 64 → bit (getD higher t 0) u ≡ true → bit left u ≡ false
+    none-above t h e n true l u v a = unled t u v (sym (rw l at (r .waits t h)) ∙ n) a
+    none-above t h e n false l u v a = d .clear t u h v e l a
+
+    -- One more round.
+    pub one-more : Decided able higher m w s takers low high (k + 1) (x .left) (x .out)
+    one-more =
+        record {
+          ranks = d .ranks;
+          gone = λ t h l.
+              r .waits t h
+              ∙ rw (free t (λ u v a. d .gone u v (omega (arith, d .ranks .falls t u h v a)))) (and-false (bit left t));
+          opens = λ t h e. opened t h (sym (r .waits t h) ∙ e);
+          clear = λ t u h v e n a. left-out u v (none-above t h e n (bit left t) refl u v a);
+          meets = λ t h n. met t h n (bit able t) refl (bit left t) refl;
+        }
+      where
+        opened : (t : ℕ) → t < 64 → (bit left t && waits-for higher left t) ≡ true → (bit able t ≡ true) × (bit (x .out) t ≡ false)
+        opened t h e =
+            let l : bit left t ≡ true = and-left (bit left t) (waits-for higher left t) e in
+            let q : waits-for higher left t ≡ true = and-right (bit left t) (waits-for higher left t) e in
+            let o = d .opens t h l in
+            (o .0, r .fires t h ∙ rw (o .1, l, q))
+
+        met : (t : ℕ) → t < 64 → bit (x .left) t ≡ false → (a : Bool) → bit able t ≡ a → (b : Bool) → bit left t ≡ b
+            → bit (x .out) t ≡ (bit able t && keep (x .out) t)
+        met t h n a e false l = out-same t h l ∙ d .meets t h l ∙ kept a e
+          where
+            kept : (a : Bool) → bit able t ≡ a → (bit able t && keep out t) ≡ (bit able t && keep (x .out) t)
+            kept true e = rw e (keeps-same t (none-above t h e n false l))
+            kept false e = rw e
+        met t h n a e true l =
+            let o = d .opens t h l in
+            let q : waits-for higher left t ≡ false = sym (rw l at (r .waits t h)) ∙ n in
+            r .fires t h ∙ rw (o .0, o .1, l, q) (keeps-same t (none-above t h (o .0) n true l))

@@ -1,0 +1,56 @@
+-- `fired` meets its contract: after k rounds those of rank below k are decided, and with none left the set is the fired one.
+use Prim.Native.Nat.{_-_, _≤_, _<_, _^_}
+use native.Mathlib.Omega.{arith}
+use borrow.Author.Needs.{needs}
+use Rattle.sets.proofs.Bits.{bit-zero}
+use Rattle.fire.proofs.Rounds.{Decided, at-start, at-end, one-more}
+use Rattle.fire.proofs.fired.Statement.{statement}
+use Rattle.fire.proofs.fired.Tie as tie
+
+abbrev Inv-loop : tie.InvT-loop
+Inv-loop able higher m w s takers low high left₀ out₀ k₀ left out k =
+    (k ≤ 64) × (out < 2 ^ 64) × Decided able higher m w s takers low high k left out
+
+abbrev μ-loop : tie.MeasureT-loop
+μ-loop able higher m w s takers low high left₀ out₀ k₀ left out k = 64 - k
+
+loop-holds : tie.Need-loop-holds Inv-loop μ-loop
+loop-holds c =
+    let a = c .args in
+    (omega arith, omega arith, at-start (a .able) (a .higher .now) (a .m .now) (a .w .now) (a .s .now) (a .takers .now) (a .low .now) (a .high .now) (c .pre))
+
+returns : tie.Need-returns Inv-loop μ-loop
+returns c = at-end (c .before .before .loop .inv .2) (λ t h. rw (c .if1 .taken) (bit-zero t))
+
+one-round-requires : tie.Need-one-round-requires Inv-loop μ-loop
+one-round-requires c κs = search needs
+
+add-k : tie.Need-add-k Inv-loop μ-loop
+add-k c = omega arith
+
+loop-less : tie.Need-loop-less Inv-loop μ-loop
+loop-less c = omega arith
+
+loop-again : tie.Need-loop-again Inv-loop μ-loop
+loop-again c =
+    let at = c .before .before .before .loop in
+    (omega arith, omega arith, one-more (at .inv .2) (c .one-round .ensures) (at .inv .1) (omega arith))
+
+returns-2 : tie.Need-returns-2 Inv-loop μ-loop
+returns-2 c =
+    let d = c .before .loop .inv .2 in
+    at-end d (λ t h. d .gone t h (omega (arith, c .loop-test .left, d .ranks .low t h)))
+
+pub fired-spec : {M : Type 1} → statement M
+fired-spec =
+    tie.close
+    (tie.spec
+    Inv-loop
+    μ-loop
+    loop-holds
+    returns
+    one-round-requires
+    add-k
+    loop-less
+    loop-again
+    returns-2)

@@ -1,0 +1,2 @@
+-- The two words of a starved transition.
+pub mod Either

@@ -1,0 +1,49 @@
+-- The loop keeps that the set has the timed transitions passed: each turn adds one where its sort is not 0.
+use mathlib.Core.Bool.{not, _&&_}
+use mathlib.Core.Path.{_≡_, refl, _∙_}
+use Prim.Native.Nat.{ℕ, _-_, _≤_}
+use native.Mathlib.Omega.{arith}
+use lib.Dec.{ltb, eqb}
+use lib.ListN.{getD}
+use borrow.Author.Needs.{needs}
+use borrow.Author.Tests.{lt-ltb}
+use Rattle.meaning.specs.Bytes.{bit}
+use Rattle.enabled.proofs.Walk.{no-number, next-number}
+use Rattle.resets.proofs.timed.Statement.{statement}
+use Rattle.resets.proofs.timed.Tie as tie
+
+abbrev Inv-loop : tie.InvT-loop
+Inv-loop sorts r₀ t₀ r t = (t ≤ 64) × ((j : ℕ) → bit r j ≡ (ltb j t && not (eqb (getD sorts j 0) 0)))
+
+abbrev μ-loop : tie.MeasureT-loop
+μ-loop sorts r₀ t₀ r t = 64 - t
+
+loop-holds : tie.Need-loop-holds Inv-loop μ-loop
+loop-holds c = (omega arith, λ j. no-number (λ k. not (eqb (getD (c .before .args .x .sorts) k 0) 0)) j)
+
+array-read-with-if : tie.Need-array-read-with-if Inv-loop μ-loop
+array-read-with-if c = search needs
+
+with-if-requires : tie.Need-with-if-requires Inv-loop μ-loop
+with-if-requires c κs = search needs
+
+add-t : tie.Need-add-t Inv-loop μ-loop
+add-t c = search needs
+
+loop-less : tie.Need-loop-less Inv-loop μ-loop
+loop-less c = search needs
+
+loop-again : tie.Need-loop-again Inv-loop μ-loop
+loop-again c =
+    let at = c .before .before .loop in (
+      omega arith,
+      λ j.
+          next-number (λ k. not (eqb (getD (c .before .before .before .before .args .x .sorts) k 0) 0)) j (at .t) (c .before .loop-test .taken) refl
+          (c .with-if .ensures j) (at .inv .1 j),
+    )
+
+returns : tie.Need-returns Inv-loop μ-loop
+returns c j h = c .before .loop .inv .1 j ∙ rw (lt-ltb j (c .before .loop .t) (omega arith))
+
+pub timed-spec : {M : Type 1} → statement M
+timed-spec = tie.close (tie.spec Inv-loop μ-loop loop-holds array-read-with-if with-if-requires add-t loop-less loop-again returns)

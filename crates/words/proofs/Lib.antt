@@ -1,0 +1,2 @@
+-- The words of a list of bytes, by index.
+pub mod Words
