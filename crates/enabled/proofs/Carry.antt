@@ -48,7 +48,7 @@ input-is z =
     (beq-true _ _ (every-elim 8 (λ c. Bool·beq (eqb c 2) (eqb (kind-of c) 3 && not (eqb c 3))) refl (z .class) (z .low)))
 
 -- Record r is an input arc to transition t.
-abbrev Arc : Table → ℕ → ℕ → Type 0
+abbrev pub Arc : Table → ℕ → ℕ → Type 0
 Arc tb t r = (r < tb .records) × (tb .kind r ≡ 3) × (tb .sort r < 3) × (tb .two r ≡ t)
 
 -- Record r is an input arc from place p to transition t, by tests.
@@ -67,8 +67,18 @@ module _ (tb : Table) (w s : List (List ℕ)) (index : List ℕ) (x : Inputs) (g
       let other : ¬ (tb .sort r ≡ 3) = eqb-false (tb .sort r) 3 (rw k at (not-true (post tb r) n)) in
       (h, kind, omega (arith, arcs r h kind .3), eqb-true (tb .two r) t e)
 
+  -- And an input arc comes from its place to its transition.
+  comes : (r : ℕ) → Arc tb t r → from-to tb (tb .one r) t r ≡ true
+  comes r a =
+      rw (
+        eq-eqb (tb .kind r) 3 (a .1),
+        ne-eqb (tb .sort r) 3 (λ e. omega (arith, a .2)),
+        eq-eqb (tb .one r) (tb .one r) refl,
+        eq-eqb (tb .two r) t (a .3),
+      )
+
   -- A cell holds its arc's weight and sort.
-  cell-of : (r : ℕ) → Arc tb t r → (cell w (tb .one r) t ≡ tb .four r) × (cell s (tb .one r) t ≡ tb .sort r)
+  pub cell-of : (r : ℕ) → Arc tb t r → (cell w (tb .one r) t ≡ tb .four r) × (cell s (tb .one r) t ≡ tb .sort r)
   cell-of r a = (
     gw .holds (tb .one r) t place ht ∙ latest-is (tb .records) (input tb (tb .one r) t) (tb .four) r (a .0) passes alone,
     gs .holds (tb .one r) t place ht ∙ latest-is (tb .records) (input tb (tb .one r) t) (tb .sort) r (a .0) passes alone,
@@ -122,35 +132,43 @@ module _ (tb : Table) (w s : List (List ℕ)) (index : List ℕ) (x : Inputs) (g
           let past : 192 + (64 + (p - 64)) ≡ 192 + p = omega (arith, ltb-false p 64 e) in
           gx .high t (p - 64) ht (omega arith) ∙ rw past
 
-  -- The arrays enable t exactly if the table does.
-  pub enabled-same : (m : List ℕ) → enabled-by m w s (getD (x .low) t 0) (getD (x .high) t 0) t ≡ enabled tb (λ p. getD m p 0) t
-  unfolding enabled-by enabled stops
-  enabled-same m = ap not (same-test (some 128 by-place) (some (tb .records) (stops tb (λ p. getD m p 0) t)) there back)
+  -- So a test of the places in t's words is a test of t's input arcs.
+  pub by-arc : (f g : ℕ → Bool) → ((r : ℕ) → Arc tb t r → f (tb .one r) ≡ g r) → ((r : ℕ) → r < tb .records → g r ≡ true → Arc tb t r)
+      → some 128 (λ p. in-words (getD (x .low) t 0) (getD (x .high) t 0) p && f p) ≡ some (tb .records) g
+  by-arc f g same is-arc = same-test (some 128 by-place) (some (tb .records) g) there back
     where
       here : ℕ → Bool
       here p = in-words (getD (x .low) t 0) (getD (x .high) t 0) p
 
       by-place : ℕ → Bool
-      by-place p = here p && stops-at m w s t p
+      by-place p = here p && f p
 
-      there : some 128 by-place ≡ true → some (tb .records) (stops tb (λ p. getD m p 0) t) ≡ true
+      there : some 128 by-place ≡ true → some (tb .records) g ≡ true
       there e =
           let p = some-elim 128 by-place e in
           let r = some-elim (tb .records) (from-to tb (p .0) t) (sym (words-same (p .0) (p .1)) ∙ and-left (here (p .0)) _ (p .2)) in
           let q = each (is tb 3 (r .0)) (not (post tb (r .0))) (eqb (tb .one (r .0)) (p .0)) (eqb (tb .two (r .0)) t) (r .2) in
-          some-intro (tb .records) (stops tb (λ p. getD m p 0) t) (r .0) (r .1)
-          (sym (stops-same m (r .0) (arc-of (r .0) (r .1) (q .0) (q .1) (q .3)))
-          ∙ ap (stops-at m w s t) (eqb-true (tb .one (r .0)) (p .0) (q .2)) ∙ and-right (here (p .0)) _ (p .2))
+          some-intro (tb .records) g (r .0) (r .1)
+          (sym (same (r .0) (arc-of (r .0) (r .1) (q .0) (q .1) (q .3)))
+          ∙ ap f (eqb-true (tb .one (r .0)) (p .0) (q .2)) ∙ and-right (here (p .0)) _ (p .2))
 
-      back : some (tb .records) (stops tb (λ p. getD m p 0) t) ≡ true → some 128 by-place ≡ true
+      back : some (tb .records) g ≡ true → some 128 by-place ≡ true
       back e =
-          let r = some-elim (tb .records) (stops tb (λ p. getD m p 0) t) e in
-          let q = each (is tb 3 (r .0)) (not (post tb (r .0))) (eqb (tb .two (r .0)) t) _ (r .2) in
-          let a = arc-of (r .0) (r .1) (q .0) (q .1) (q .2) in
+          let r = some-elim (tb .records) g e in
+          let a = is-arc (r .0) (r .1) (r .2) in
           let place = arcs (r .0) (r .1) (a .1) .0 in
           some-intro 128 by-place (tb .one (r .0)) place
           (and-true
           (words-same (tb .one (r .0)) place
-          ∙ some-intro (tb .records) (from-to tb (tb .one (r .0)) t) (r .0) (r .1)
-          (and-true (and-true (and-true (q .0) (q .1)) (eq-eqb (tb .one (r .0)) (tb .one (r .0)) refl)) (q .2)))
-          (stops-same m (r .0) a ∙ r .2))
+          ∙ some-intro (tb .records) (from-to tb (tb .one (r .0)) t) (r .0) (r .1) (comes (r .0) a))
+          (same (r .0) a ∙ r .2))
+
+  -- The arrays enable t exactly if the table does.
+  pub enabled-same : (m : List ℕ) → enabled-by m w s (getD (x .low) t 0) (getD (x .high) t 0) t ≡ enabled tb (λ p. getD m p 0) t
+  unfolding enabled-by enabled stops
+  enabled-same m =
+      ap not
+      (by-arc (stops-at m w s t) (stops tb (λ p. getD m p 0) t) (stops-same m)
+      (λ r h e.
+      let q = each (is tb 3 r) (not (post tb r)) (eqb (tb .two r) t) _ e in
+      arc-of r h (q .0) (q .1) (q .2)))

@@ -15,7 +15,7 @@ use Rattle.resets.specs.Starved.{starved-by}
 use Rattle.resets.specs.Arc.{starves-at}
 
 -- Four tests, the last three together.
-grouped : (a b c d : Bool) → (a && b && c && d) ≡ (a && (b && c && d))
+pub grouped : (a b c d : Bool) → (a && b && c && d) ≡ (a && (b && c && d))
 grouped true b c d = refl
 grouped false b c d = refl
 

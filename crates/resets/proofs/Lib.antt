@@ -1,2 +1,3 @@
 -- The two words of a starved transition.
 pub mod Either
+pub mod Carry
