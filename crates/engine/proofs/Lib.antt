@@ -1,7 +1,9 @@
--- The laws of the engine: its images, its stages, what start leaves, and the wrong engines that its statements refuse.
+-- The laws of the engine: its images, its stages, what start and run leave, and the wrong engines that its statements refuse.
 pub mod Stored
 pub mod Fresh
 pub mod Stages
 pub mod Verdict
 pub mod Starts
+pub mod Lent
+pub mod Runs
 pub mod Wrong

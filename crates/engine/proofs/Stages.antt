@@ -13,11 +13,11 @@ use Rattle.meaning.specs.Answer.{Answer, accepted, refused, Check, check-of, de
 use Rattle.meaning.specs.Defined.{bad-length, fault, faulty, unknown, empty, isolated, circle, unsettled, clashes, table-checks, check}
 
 -- A check whose first candidate is none of those below hands on; another answers for it.
-hands-on : (c : Check) (cs : List Check) (ok : Answer) → first (c .below) (c .bad) ≡ c .below → decide (c ∷ cs) ok ≡ decide cs ok
+pub hands-on : (c : Check) (cs : List Check) (ok : Answer) → first (c .below) (c .bad) ≡ c .below → decide (c ∷ cs) ok ≡ decide cs ok
 unfolding decide
 hands-on c cs ok e = rw (e, le-ltb (c .below) (c .below) (omega arith))
 
-answers : (c : Check) (cs : List Check) (ok : Answer) → first (c .below) (c .bad) < c .below
+pub answers : (c : Check) (cs : List Check) (ok : Answer) → first (c .below) (c .bad) < c .below
     → decide (c ∷ cs) ok ≡ c .answer (first (c .below) (c .bad))
 unfolding decide
 answers c cs ok l = rw (lt-ltb (first (c .below) (c .bad)) (c .below) l)

@@ -15,7 +15,7 @@ use Rattle.meaning.proofs.Decide.{Clean, Found, search-all, decide-pass, decide
 use Rattle.meaning.proofs.Tables.{table-refusing}
 
 -- Checks that refuse, refuse whatever checks stand behind them.
-refused-too : (xs ys : List Check) → decide xs (accepted 0) .number ≢ 0 → decide (xs ++ ys) (accepted 0) ≡ decide xs (accepted 0)
+pub refused-too : (xs ys : List Check) → decide xs (accepted 0) .number ≢ 0 → decide (xs ++ ys) (accepted 0) ≡ decide xs (accepted 0)
 unfolding decide
 refused-too [] ys n = absurd (n refl)
 refused-too (c ∷ cs) ys n =

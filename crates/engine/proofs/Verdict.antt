@@ -50,7 +50,7 @@ pub refusal : (bs : List ℕ) (j : Judged) → 0 < j .number → refused (j .num
 refusal bs j l e = record { answer = e; index = λ z. absurd (omega arith); higher = λ z. absurd (omega arith) }
 
 -- A search that stays below its end and one that reaches it.
-reached : (n : ℕ) (p : ℕ → Bool) {k : ℕ} → k ≡ first n p → n ≤ k → first n p ≡ n
+pub reached : (n : ℕ) (p : ℕ → Bool) {k : ℕ} → k ≡ first n p → n ≤ k → first n p ≡ n
 reached n p e l = omega (arith, first-le n p)
 
 module _ (bs : List ℕ) (right : bad-length bs ≡ false) (s : Pass) (scanned : Scanned (table bs) s) where

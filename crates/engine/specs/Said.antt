@@ -1,20 +1,23 @@
 -- What the engine's answers and parts say, in the words of the meaning.
-use mathlib.Core.Bool.{cond, _&&_}
-use mathlib.Core.List.{List}
+use mathlib.Core.Bool.{cond, not, _&&_}
+use mathlib.Core.List.{List, _∷_}
 use mathlib.Core.Path.{_≡_}
 use Prim.Native.Nat.{ℕ, _+_, _*_, _/_, _%_, _<_}
 use lib.Dec.{eqb, ltb}
-use lib.ListN.{getD, set}
+use lib.ListN.{length, getD, set}
 use Rattle.meaning.specs.Below.{first}
 use Rattle.meaning.specs.Bytes.{bit}
 use Rattle.meaning.specs.Table.{Table, table}
 use Rattle.meaning.specs.Answer as meaning
 use Rattle.meaning.specs.Priority.{above}
 use Rattle.meaning.specs.Defined.{check}
+use Rattle.meaning.specs.Calls.{word-checks}
 use Rattle.records.specs.declared.Rec.{Rec}
 use Rattle.table.specs.Index.{Indexed}
 use Rattle.net.specs.Rows.{Gathered, Conflicts}
 use Rattle.pairs.specs.Settled.{loose}
+use Rattle.timing.specs.declared.Intervals.{Intervals}
+use Rattle.fit.specs.Fit.{wrong-by}
 use Rattle.engine.specs.declared.Answer.{Answer}
 use Rattle.engine.specs.declared.Judged.{Judged}
 
@@ -47,3 +50,10 @@ put-of image x =
     cond (eqb (x .kind) 1 && ltb (x .one) 128)
     (set (set image (4 * x .one) (x .four % 256)) (4 * x .one + 1) (x .four / 256))
     image
+
+-- Answers 10, 11 and 12 in the page's order, the image held to the index and the intervals.
+unfoldable pub lent-checks : List ℕ → List ℕ → List ℕ → List ℕ → Intervals → List meaning.Check
+lent-checks img ws report index x =
+    meaning.check-of 1 (λ k. not (eqb (length img) 768)) (λ k. meaning.refused 10 192)
+    ∷ meaning.check-of 192 (wrong-by img index x) (λ k. meaning.refused 10 k)
+    ∷ word-checks ws report

@@ -1,16 +1,17 @@
-// The engine's calls over lent bytes: check, start, lookup. Each call has its answer table in docs/ANSWERS.md.
+// The engine's calls over lent bytes: check, start, run, lookup. Each call has its answer table in docs/ENGINE.md.
 use records::Rec;
+use timing::Intervals;
 ghost use mathlib.Core.Bool.{false};
 ghost use mathlib.Core.Path.{_≡_};
 ghost use Prim.Native.Nat.{_+_, _/_, _%_, _≤_};
 ghost use lib.ListN.{length, set, replicate};
-ghost use Rattle.meaning.specs.Answer.{accepted};
+ghost use Rattle.meaning.specs.Answer.{accepted, refused, decide};
 ghost use Rattle.meaning.specs.Table.{table};
 ghost use Rattle.meaning.specs.Defined.{bad-length, check};
 ghost use Rattle.meaning.specs.Image.{image-bytes, fresh};
-ghost use Rattle.meaning.specs.Promise.{Checked, Started, Looked-up};
+ghost use Rattle.meaning.specs.Promise.{Checked, Started, Ran, Looked-up};
 ghost use Rattle.net.specs.Rows.{Weights, Sorts};
-ghost use Rattle.engine.specs.Said.{said, Judges, Least, put-of};
+ghost use Rattle.engine.specs.Said.{said, Judges, Least, put-of, lent-checks};
 
 // An answer: its number (0 accepted), the page's where, the cycles done.
 pub struct Answer {
@@ -208,6 +209,95 @@ pub fn start(t: &[u8], image: &mut [u8]) -> Answer
     }
     write_fresh(t, image);
     a
+}
+
+// An answer before any cycle: its number and where.
+struct Finding {
+    number: usize,
+    at: usize,
+}
+
+// Answers 10, 11 and 12 of what is lent beside an accepted table, by its index and its intervals.
+fn judge_lent(
+    image: &[u8],
+    words: &[u8],
+    report: &[u8],
+    index: &[u64; 768],
+    x: Intervals,
+) -> Finding
+    ensures { λ v. ⌜ refused (v .number) (v .at) ≡ decide (lent-checks (now (image .entry)) (now (words .entry)) (now (report .entry)) (now (index .entry)) x) (accepted 0) ⌝ }
+{
+    if image.len() != 768 {
+        return Finding {
+            number: 10,
+            at: 192,
+        };
+    }
+    let wrong = fit::first_wrong(image, index, x);
+    if wrong < 192 {
+        return Finding {
+            number: 10,
+            at: wrong,
+        };
+    }
+    if words.len() % 8 != 0 {
+        return Finding { number: 11, at: 0 };
+    }
+    if 4096 < words.len() {
+        return Finding { number: 11, at: 0 };
+    }
+    if report.len() < 24 * (words.len() / 8) {
+        return Finding { number: 12, at: 0 };
+    }
+    Finding { number: 0, at: 0 }
+}
+
+// run: answers 1 to 9, then 10, 11 and 12, then one cycle a word, and 13 at a cycle. A refusal before any cycle writes nothing; 13 keeps the
+// finished cycles and nothing of the refused one.
+pub fn run(t: &[u8], image: &mut [u8], words: &[u8], report: &mut [u8]) -> Answer
+    ensures { λ a. ⌜ Ran (now (t .entry)) (now (image .entry)) (now (words .entry)) (now (report .entry)) (said a) (now (image .exit)) (now (report .exit)) ⌝ }
+{
+    if t.len() % 8 != 0 {
+        return Answer {
+            number: 1,
+            at: 0,
+            cycles: 0,
+        };
+    }
+    if 8192 < t.len() {
+        return Answer {
+            number: 1,
+            at: 0,
+            cycles: 0,
+        };
+    }
+    let w = net::weights(t);
+    let s = net::sorts(t);
+    let j = judge(t, &w, &s);
+    if j.number != 0 {
+        return Answer {
+            number: j.number,
+            at: j.at,
+            cycles: 0,
+        };
+    }
+    let index = j.rows;
+    let above = j.above;
+    let x = timing::times(t);
+    let v = judge_lent(image, words, report, &index, x);
+    if v.number != 0 {
+        return Answer {
+            number: v.number,
+            at: v.at,
+            cycles: 0,
+        };
+    }
+    let e = course::course(t, image, words, report, x, &index, &above, &w, &s);
+    Answer {
+        number: e.number,
+        at: e.at,
+        cycles: e.cycles,
+    }
 }
 
 // The 24 bytes of one cycle, counted from 1, as that part of the report; an empty part for 0 and for a cycle that the report does not hold

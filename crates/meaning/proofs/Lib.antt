@@ -29,6 +29,7 @@ pub mod Near
 pub mod Source
 -- runs and outcomes
 pub mod Run
+pub mod Carried
 pub mod Words
 pub mod Outcomes
 pub mod Demand3

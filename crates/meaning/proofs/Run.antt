@@ -22,7 +22,7 @@ use Rattle.meaning.proofs.Below.{first-none, first-is, first-passes, fi
 -- CYCLES: the first overfull place decides.
 
 -- The first place that a cycle would overfill, 128 where there is none.
-abbrev full : Table → List ℕ → ℕ → ℕ
+abbrev pub full : Table → List ℕ → ℕ → ℕ
 full tb img w = first 128 (overfull tb (cycle tb img w .after))
 
 module _ (tb : Table) (img : List ℕ) (w : ℕ) where
@@ -38,11 +38,11 @@ module _ (tb : Table) (img : List ℕ) (w : ℕ) where
       (λ q l. le-ltb (ceiling tb q) (cycle tb img w .after .tokens q) (h .2 q l))
 
   -- And back.
-  below-full : (q : ℕ) → q < full tb img w → cycle tb img w .after .tokens q ≤ ceiling tb q
+  pub below-full : (q : ℕ) → q < full tb img w → cycle tb img w .after .tokens q ≤ ceiling tb q
   unfolding overfull
   below-full q l = ltb-false (ceiling tb q) (cycle tb img w .after .tokens q) (first-before 128 _ q l)
 
-  full-bursts : full tb img w < 128 → Bursts tb img w (full tb img w)
+  pub full-bursts : full tb img w < 128 → Bursts tb img w (full tb img w)
   unfolding overfull
   full-bursts l = (l, ltb-true _ _ (first-passes 128 (overfull tb (cycle tb img w .after)) l), below-full)
 

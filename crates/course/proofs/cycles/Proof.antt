@@ -1,0 +1,106 @@
+-- `cycles` meets its contract: each turn is one step of the meaning's run.
+use mathlib.Core.Path.{_≡_, refl, sym, _∙_}
+use Prim.Native.Nat.{_*_, _/_, _-_, _≤_}
+use native.Mathlib.Numerals.{add-one}
+use native.Mathlib.Omega.{arith}
+use lib.ListN.{length}
+use borrow.Author.Needs.{needs}
+use Rattle.course.proofs.Turns.{At, begins, bursts, turned, finished, out-length}
+use Rattle.course.proofs.cycles.Statement.{statement}
+use Rattle.course.proofs.cycles.Tie as tie
+
+abbrev Inv-loop : tie.InvT-loop
+Inv-loop t image words report₀ known timed x index higher w s posts takers putters low high truths falses n h₀ i₀ report h i =
+    (n ≡ length words / 8) × (i ≤ n) × At t image words report₀ i h report
+
+abbrev μ-loop : tie.MeasureT-loop
+μ-loop t image words report₀ known timed x index higher w s posts takers putters low high truths falses n h₀ i₀ report h i = n - i
+
+load-requires : tie.Need-load-requires Inv-loop μ-loop
+load-requires c κs = search needs
+
+loop-holds : tie.Need-loop-holds Inv-loop μ-loop
+loop-holds c = (refl, omega arith, begins _ _ _ _ (c .before .before .before .before .before .pre .0 .sound) (c .before .before .before .before .before .pre .1) _ (c .load .ensures .0) (c .load .ensures .1))
+
+word-requires : tie.Need-word-requires Inv-loop μ-loop
+word-requires c κs = omega arith
+
+step-requires : tie.Need-step-requires Inv-loop μ-loop
+step-requires c κs = (c .before .before .before .before .before .before .before .before .pre .0, c .before .before .loop .inv .2 .small)
+
+same-length : tie.Need-same-length Inv-loop μ-loop
+same-length c =
+    let at = c .before .before .before .before .loop in
+    let room = c .before .before .before .before .before .before .before .before .before .before .pre .1 .room in
+    out-length _ _ _ _ (at .inv .2) (omega arith)
+
+returns : tie.Need-returns Inv-loop μ-loop
+returns c =
+    let given = c .before .before .before .before .before .before .before .before .before .before .pre in
+    let at = c .before .before .before .before .loop in
+    bursts _ _ _ _ (given .0 .sound) (given .1) _ _ _ (at .inv .2) (omega arith) _ (c .before .before .word .ensures) _ (c .before .step .ensures) (c .if1 .taken)
+
+mul-store : tie.Need-mul-store Inv-loop μ-loop
+mul-store c =
+    let few = c .before .before .before .before .before .before .before .before .before .before .before .pre .1 .few in
+    let at = c .before .before .before .before .before .loop in
+    omega (arith, few, at .inv .0, at .inv .1)
+
+store-requires : tie.Need-store-requires Inv-loop μ-loop
+store-requires c κs =
+    let given = c .before .before .before .before .before .before .before .before .before .before .before .pre .1 in
+    let at = c .before .before .before .before .before .loop in
+    omega (arith, given .room, at .inv .0, at .inv .1, out-length _ _ _ _ (at .inv .2) (omega arith), given .few)
+
+add-i : tie.Need-add-i Inv-loop μ-loop
+add-i c =
+    let few = c .before .before .before .before .before .before .before .before .before .before .before .before .before .before .before .pre .1 .few in
+    let at = c .before .before .before .before .before .before .before .before .before .loop in
+    omega (arith, few, at .inv .0, at .inv .1)
+
+loop-less : tie.Need-loop-less Inv-loop μ-loop
+loop-less c = omega arith
+
+loop-again : tie.Need-loop-again Inv-loop μ-loop
+loop-again c =
+    let stepped = c .before .before .before .before .before .before in
+    let at = stepped .before .before .before .loop in
+    let given = stepped .before .before .before .before .before .before .before .before .before .pre in (
+      refl,
+      omega arith,
+      rw add-one
+          (turned _ _ _ _ (given .0 .sound) (given .1) _ _ _ (at .inv .2) (omega arith) _ (stepped .before .word .ensures) _ (stepped .step .ensures) (c .before .before .before .before .before .if1 .left) _ (c .before .before .before .store .ensures)),
+    )
+
+same-length-2 : tie.Need-same-length-2 Inv-loop μ-loop
+same-length-2 c =
+    let at = c .before .loop in
+    let room = c .before .before .before .before .before .before .before .pre .1 .room in
+    out-length _ _ _ _ (at .inv .2) (omega arith)
+
+returns-2 : tie.Need-returns-2 Inv-loop μ-loop
+returns-2 c =
+    let given = c .before .before .before .before .before .before .before .pre in
+    let at = c .before .loop in
+    let all : at .i ≡ length (c .before .before .before .before .before .before .before .args .words .now) / 8 = omega arith in
+    finished _ _ _ _ (given .0 .sound) (given .1) _ _ (rw all at (at .inv .2))
+
+pub cycles-spec : {M : Type 1} → statement M
+cycles-spec =
+    tie.close
+    (tie.spec
+    Inv-loop
+    μ-loop
+    load-requires
+    loop-holds
+    word-requires
+    step-requires
+    same-length
+    returns
+    mul-store
+    store-requires
+    add-i
+    loop-less
+    loop-again
+    same-length-2
+    returns-2)

@@ -1,0 +1,56 @@
+-- What a call brings to its cycles, and what they leave: the meaning's trace of its words.
+use mathlib.Core.Bool.{cond}
+use mathlib.Core.List.{List}
+use mathlib.Core.Path.{_≡_}
+use Prim.Native.Nat.{ℕ, _*_, _/_, _≤_, _<_}
+use lib.Dec.{eqb}
+use lib.ListN.{length, getD}
+use Rattle.meaning.specs.Below.{first}
+use Rattle.meaning.specs.Bytes.{bit}
+use Rattle.meaning.specs.Table.{table}
+use Rattle.meaning.specs.Answer.{Answer, accepted}
+use Rattle.meaning.specs.Priority.{above}
+use Rattle.meaning.specs.Defined.{check}
+use Rattle.meaning.specs.Image.{image, image-bytes, wrong}
+use Rattle.meaning.specs.Calls.{words-of, trace, Run, ran}
+use Rattle.net.specs.Rows.{Weights, Sorts}
+use Rattle.timing.specs.declared.Intervals.{Intervals}
+use Rattle.timing.specs.Times.{Times-of}
+use Rattle.table.specs.Index.{Indexed}
+use Rattle.image.specs.Held.{Small, held}
+use Rattle.course.specs.declared.Halted.{Halted}
+use Rattle.course.specs.declared.Ended.{Ended}
+
+-- The bytes spell an accepted table, and what the check has read of it is its own.
+pub record Read (bs : List ℕ) (x : Intervals) (index higher : List ℕ) (w s : List (List ℕ)) : Type 0 where
+  pub sound : check bs ≡ accepted 0
+  pub index-holds : Indexed (table bs) (table bs .records) index
+  pub times : Times-of (table bs) x
+  pub higher-is : (u t : ℕ) → u < 64 → t < 64 → bit (getD higher u 0) t ≡ above (table bs) u t
+  pub weights : Weights (table bs) w
+  pub sorts : Sorts (table bs) s
+
+-- The image fits the table, the words are not too many, and the report has room for every one.
+pub record Ready (bs img ws report : List ℕ) : Type 0 where
+  pub long : length img ≡ 768
+  pub fits : first 192 (wrong (table bs) (image img)) ≡ 192
+  pub few : length ws ≤ 4096
+  pub room : 24 * (length ws / 8) ≤ length report
+
+-- What the words' cycles leave of the image and the report.
+abbrev pub left-by : List ℕ → List ℕ → List ℕ → List ℕ → Run
+left-by bs img ws report = ran (trace (table bs) (words-of (length ws / 8) ws) img) report
+
+-- The cycles are done: the answer and the report are the trace's, and its image is the one lent where no cycle is finished, else that of the
+-- state.
+pub record Halts (bs img ws report : List ℕ) (e : Halted) (report′ : List ℕ) : Type 0 where
+  pub answer-is : record { number = e .number; at = e .at; cycles = e .cycles } ≡ left-by bs img ws report .answer
+  pub image-is : cond (eqb (e .cycles) 0) img (image-bytes (held (e .state))) ≡ left-by bs img ws report .image
+  pub report-is : report′ ≡ left-by bs img ws report .report
+  pub small : Small (e .state)
+
+-- The answer, the image and the report are the trace's.
+pub record Ends (bs img ws report : List ℕ) (e : Ended) (img′ report′ : List ℕ) : Type 0 where
+  pub answer-is : record { number = e .number; at = e .at; cycles = e .cycles } ≡ left-by bs img ws report .answer
+  pub image-is : img′ ≡ left-by bs img ws report .image
+  pub report-is : report′ ≡ left-by bs img ws report .report

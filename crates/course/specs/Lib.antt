@@ -1,0 +1,2 @@
+-- What the cycles of a call come to.
+pub mod Course

@@ -1,0 +1,164 @@
+// The cycles of a call: one a word, from the image that is lent into the report that is lent.
+use image::Held;
+use timing::Intervals;
+ghost use mathlib.Core.Bool.{cond};
+ghost use mathlib.Core.Path.{_≡_};
+ghost use lib.Dec.{eqb};
+ghost use lib.ListN.{length};
+ghost use Rattle.meaning.specs.Image.{image-bytes};
+ghost use Rattle.image.specs.Held.{Small, held};
+ghost use Rattle.cycle.specs.Step.{Net-of};
+ghost use Rattle.course.specs.Course.{Read, Ready, Halts, Ends};
+
+// How the words came to their end: the state then, number and where, and the finished cycles.
+struct Halted {
+    state: Held,
+    number: usize,
+    at: usize,
+    cycles: usize,
+}
+
+// The same without the state.
+pub struct Ended {
+    pub number: usize,
+    pub at: usize,
+    pub cycles: usize,
+}
+
+// One cycle a word over the rows of the table, until one is refused or the words are done. Each finished cycle writes its record.
+fn cycles(
+    t: &[u8],
+    image: &[u8],
+    words: &[u8],
+    report: &mut [u8],
+    known: u64,
+    timed: u64,
+    x: Intervals,
+    index: &[u64; 768],
+    higher: &[u64; 64],
+    w: &[[u16; 64]; 128],
+    s: &[[u8; 64]; 128],
+    posts: &[[u16; 64]; 128],
+    takers: &[u64; 128],
+    putters: &[u64; 128],
+    low: &[u64; 64],
+    high: &[u64; 64],
+    truths: &[u64; 128],
+    falses: &[u64; 128],
+) -> Halted
+    requires { ⌜ Net-of (now t) known timed x (now index) (now higher) (now w) (now s) (now posts) (now takers) (now putters) (now low) (now high) (now truths) (now falses) ⌝ }
+    requires { ⌜ Ready (now t) (now image) (now words) (now report) ⌝ }
+    ensures { λ e. ⌜ Halts (now (t .entry)) (now (image .entry)) (now (words .entry)) (now (report .entry)) e (now (report .exit)) ⌝ }
+{
+    let n = words.len() / 8;
+    let mut h = image::load(image);
+    let mut i = 0;
+    while i < n {
+        let word = words::word(words, i);
+        let r = cycle::step(
+            t,
+            h,
+            word,
+            known,
+            timed,
+            x,
+            index,
+            higher,
+            w,
+            s,
+            posts,
+            takers,
+            putters,
+            low,
+            high,
+            truths,
+            falses,
+        );
+        let over = r.over;
+        if over < 128 {
+            return Halted {
+                state: h,
+                number: 13,
+                at: over,
+                cycles: i,
+            };
+        }
+        report::store(report, 24 * i, r.fired, r.actions, r.functions);
+        h = r.next;
+        i += 1;
+    }
+    Halted {
+        state: h,
+        number: 0,
+        at: 0,
+        cycles: n,
+    }
+}
+
+// The image after so many finished cycles: as lent where there is none, else that of the state.
+fn keep(image: &mut [u8], h: Held, done: usize)
+    requires { ⌜ length (now image) ≡ 768 ⌝ }
+    requires { ⌜ Small h ⌝ }
+    ensures { λ _. ⌜ now (image .exit) ≡ cond (eqb done 0) (now (image .entry)) (image-bytes (held h)) ⌝ }
+{
+    if done == 0 {
+        return;
+    }
+    image::save(image, h);
+}
+
+// The cycles of a call whose checks are passed: the rest of the rows is read, then one cycle a word, then the image is written.
+pub fn course(
+    t: &[u8],
+    image: &mut [u8],
+    words: &[u8],
+    report: &mut [u8],
+    x: Intervals,
+    index: &[u64; 768],
+    above: &[u64; 64],
+    w: &[[u16; 64]; 128],
+    s: &[[u8; 64]; 128],
+) -> Ended
+    requires { ⌜ Read (now t) x (now index) (now above) (now w) (now s) ⌝ }
+    requires { ⌜ Ready (now t) (now image) (now words) (now report) ⌝ }
+    ensures { λ e. ⌜ Ends (now (t .entry)) (now (image .entry)) (now (words .entry)) (now (report .entry)) e (now (image .exit)) (now (report .exit)) ⌝ }
+{
+    let higher = priority::turn(above);
+    let posts = moves::posts(t);
+    let takers = net::gather(t, 3, 0);
+    let putters = net::gather(t, 3, 3);
+    let truths = net::gather(t, 4, 0);
+    let falses = net::gather(t, 4, 1);
+    let inputs = enabled::inputs_of(index);
+    let low = inputs.low;
+    let high = inputs.high;
+    let known = enabled::known(index);
+    let timed = resets::timed(x);
+    let e = cycles(
+        t,
+        image,
+        words,
+        report,
+        known,
+        timed,
+        x,
+        index,
+        &higher,
+        w,
+        s,
+        &posts,
+        &takers,
+        &putters,
+        &low,
+        &high,
+        &truths,
+        &falses,
+    );
+    let done = e.cycles;
+    keep(image, e.state, done);
+    Ended {
+        number: e.number,
+        at: e.at,
+        cycles: done,
+    }
+}
