@@ -1,0 +1,2 @@
+-- What the exported calls hand to C.
+pub mod Exported
