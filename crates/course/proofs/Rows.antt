@@ -1,4 +1,4 @@
--- What the rows of a call are made of: each row is what the function that makes it ensures.
+-- What the rows of a cycle are: those that the call brings, and those made of them.
 use mathlib.Core.Bool.{Bool, not}
 use mathlib.Core.List.{List}
 use mathlib.Core.Path.{_≡_, ap, _∙_}
@@ -7,8 +7,6 @@ use lib.Dec.{eqb}
 use lib.ListN.{getD}
 use Rattle.meaning.specs.Bytes.{bit}
 use Rattle.meaning.specs.Table.{table}
-use Rattle.net.specs.Rows.{Gathered}
-use Rattle.moves.specs.Moves.{Posts}
 use Rattle.timing.specs.declared.Intervals.{Intervals}
 use Rattle.timing.proofs.Carry.{sort-is}
 use Rattle.table.proofs.Carry.{transition-bit}
@@ -18,16 +16,14 @@ use Rattle.cycle.specs.Step.{Net-of}
 use Rattle.cycle.proofs.Facts.{sound, fine}
 use Rattle.course.specs.Course.{Read}
 
-module _ {bs : List ℕ} {x : Intervals} {index above : List ℕ} {w s : List (List ℕ)} (read : Read bs x index above w s) where
+module _ {bs : List ℕ} {x : Intervals} {index above : List ℕ} {w s posts : List (List ℕ)} {takers putters truths falses : List ℕ}
+    (read : Read bs x index above w s posts takers putters truths falses) where
   pub net-of : (known : ℕ) → ((t : ℕ) → t < 64 → bit known t ≡ bit (getD index (128 + t) 0) 0)
       → (timed : ℕ) → ((t : ℕ) → t < 64 → bit timed t ≡ not (eqb (getD (x .sorts) t 0) 0))
       → (higher : List ℕ) → ((t u : ℕ) → t < 64 → u < 64 → bit (getD higher t 0) u ≡ bit (getD above u 0) t)
-      → (posts : List (List ℕ)) → Posts (table bs) posts
-      → (takers : List ℕ) → Gathered (table bs) 3 0 takers → (putters : List ℕ) → Gathered (table bs) 3 3 putters
-      → (truths : List ℕ) → Gathered (table bs) 4 0 truths → (falses : List ℕ) → Gathered (table bs) 4 1 falses
       → (inputs : Inputs) → Inputs-of index inputs
       → Net-of bs known timed x index higher w s posts takers putters (inputs .low) (inputs .high) truths falses
-  net-of known known-is timed timed-is higher higher-is posts posts-hold takers takers-hold putters putters-hold truths truths-hold falses falses-hold inputs inputs-hold =
+  net-of known known-is timed timed-is higher higher-is inputs inputs-hold =
       record {
         sound = read .sound;
         index-holds = read .index-holds;
@@ -37,10 +33,10 @@ module _ {bs : List ℕ} {x : Intervals} {index above : List ℕ} {w s : List (L
         higher-is = λ t u h l. higher-is t u h l ∙ read .higher-is u t l h;
         weights = read .weights;
         sorts = read .sorts;
-        posts-hold = posts-hold;
-        takers-hold = takers-hold;
-        putters-hold = putters-hold;
+        posts-hold = read .posts-hold;
+        takers-hold = read .takers-hold;
+        putters-hold = read .putters-hold;
         inputs = inputs-hold;
-        truths-hold = truths-hold;
-        falses-hold = falses-hold;
+        truths-hold = read .truths-hold;
+        falses-hold = read .falses-hold;
       }

@@ -107,7 +107,8 @@ fn keep(image: &mut [u8], h: Held, done: usize)
     image::save(image, h);
 }
 
-// The cycles of a call whose checks are passed: the rest of the rows is read, then one cycle a word, then the image is written.
+// The cycles of a call whose checks are passed: what the rows leave out is made of them, then one cycle a word, then the image is written. With
+// no words nothing is done.
 pub fn course(
     t: &[u8],
     image: &mut [u8],
@@ -118,17 +119,17 @@ pub fn course(
     above: &[u64; 64],
     w: &[[u16; 64]; 128],
     s: &[[u8; 64]; 128],
+    posts: &[[u16; 64]; 128],
+    takers: &[u64; 128],
+    putters: &[u64; 128],
+    truths: &[u64; 128],
+    falses: &[u64; 128],
 ) -> Ended
-    requires { ⌜ Read (now t) x (now index) (now above) (now w) (now s) ⌝ }
+    requires { ⌜ Read (now t) x (now index) (now above) (now w) (now s) (now posts) (now takers) (now putters) (now truths) (now falses) ⌝ }
     requires { ⌜ Ready (now t) (now image) (now words) (now report) ⌝ }
     ensures { λ e. ⌜ Ends (now (t .entry)) (now (image .entry)) (now (words .entry)) (now (report .entry)) e (now (image .exit)) (now (report .exit)) ⌝ }
 {
     let higher = priority::turn(above);
-    let posts = moves::posts(t);
-    let takers = net::gather(t, 3, 0);
-    let putters = net::gather(t, 3, 3);
-    let truths = net::gather(t, 4, 0);
-    let falses = net::gather(t, 4, 1);
     let inputs = enabled::inputs_of(index);
     let low = inputs.low;
     let high = inputs.high;
@@ -146,13 +147,13 @@ pub fn course(
         &higher,
         w,
         s,
-        &posts,
-        &takers,
-        &putters,
+        posts,
+        takers,
+        putters,
         &low,
         &high,
-        &truths,
-        &falses,
+        truths,
+        falses,
     );
     let done = e.cycles;
     keep(image, e.state, done);

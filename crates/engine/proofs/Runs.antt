@@ -16,7 +16,8 @@ use Rattle.meaning.proofs.Decide.{decide-append, accepted-clean}
 use Rattle.meaning.proofs.Tables.{table-refusing}
 use Rattle.meaning.proofs.Run.{verdict, run-refused-leaves, run-goes-on}
 use Rattle.cycle.proofs.Facts.{sound, fine}
-use Rattle.net.specs.Rows.{Weights, Sorts}
+use Rattle.net.specs.Rows.{Gathered, Weights, Sorts}
+use Rattle.moves.specs.Moves.{Posts}
 use Rattle.timing.specs.declared.Intervals.{Intervals}
 use Rattle.timing.specs.Times.{Times-of}
 use Rattle.fit.specs.Fit.{wrong-by}
@@ -34,8 +35,10 @@ module _ (bs : List ℕ) (j : Judged) (judged : Judges bs j) (zero-is : j .numbe
   table-fine : check bs ≡ accepted 0
   table-fine = accepted-if bs (ap (λ (a : Answer). a .number) (sym (judged .answer)) ∙ zero-is)
 
-  pub read : Read bs x (j .rows) (j .above) w s
-  read =
+  pub read : (posts : List (List ℕ)) → Posts (table bs) posts → (takers : List ℕ) → Gathered (table bs) 3 0 takers
+      → (putters : List ℕ) → Gathered (table bs) 3 3 putters → (truths : List ℕ) → Gathered (table bs) 4 0 truths
+      → (falses : List ℕ) → Gathered (table bs) 4 1 falses → Read bs x (j .rows) (j .above) w s posts takers putters truths falses
+  read posts posts-hold takers takers-hold putters putters-hold truths truths-hold falses falses-hold =
       record {
         sound = table-fine;
         index-holds = judged .index zero-is;
@@ -43,6 +46,11 @@ module _ (bs : List ℕ) (j : Judged) (judged : Judges bs j) (zero-is : j .numbe
         higher-is = judged .higher zero-is;
         weights = weights;
         sorts = sorts;
+        posts-hold = posts-hold;
+        takers-hold = takers-hold;
+        putters-hold = putters-hold;
+        truths-hold = truths-hold;
+        falses-hold = falses-hold;
       }
 
 module _ (bs img ws report : List ℕ) where

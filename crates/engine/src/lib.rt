@@ -292,7 +292,27 @@ pub fn run(t: &[u8], image: &mut [u8], words: &[u8], report: &mut [u8]) -> Answe
             cycles: 0,
         };
     }
-    let e = course::course(t, image, words, report, x, &index, &above, &w, &s);
+    let posts = moves::posts(t);
+    let takers = net::gather(t, 3, 0);
+    let putters = net::gather(t, 3, 3);
+    let truths = net::gather(t, 4, 0);
+    let falses = net::gather(t, 4, 1);
+    let e = course::course(
+        t,
+        image,
+        words,
+        report,
+        x,
+        &index,
+        &above,
+        &w,
+        &s,
+        &posts,
+        &takers,
+        &putters,
+        &truths,
+        &falses,
+    );
     Answer {
         number: e.number,
         at: e.at,

@@ -63,10 +63,7 @@ pub extern "C" fn mk_lookup(report: &[u8], cycle: usize) -> Part
 {
     let part = engine::lookup(report, cycle);
     if part.len() == 0 {
-        return Part {
-            from: 0,
-            length: 0,
-        };
+        return Part { from: 0, length: 0 };
     }
     Part {
         from: 24 * (cycle - 1),

@@ -8,21 +8,6 @@ use Rattle.course.proofs.course.Tie as tie
 turn-requires : tie.Need-turn-requires
 turn-requires c κs = search needs
 
-posts-requires : tie.Need-posts-requires
-posts-requires c κs = search needs
-
-gather-requires : tie.Need-gather-requires
-gather-requires c κs = search needs
-
-gather-requires-2 : tie.Need-gather-requires-2
-gather-requires-2 c κs = search needs
-
-gather-requires-3 : tie.Need-gather-requires-3
-gather-requires-3 c κs = search needs
-
-gather-requires-4 : tie.Need-gather-requires-4
-gather-requires-4 c κs = search needs
-
 inputs-of-requires : tie.Need-inputs-of-requires
 inputs-of-requires c κs = search needs
 
@@ -34,12 +19,10 @@ timed-requires c κs = search needs
 
 cycles-requires : tie.Need-cycles-requires
 cycles-requires c κs =
-    let after-timed = c .before .before .before .before .before .before .before .before .before .before in
-    let after-gather4 = after-timed .before .before .before .before .before in
-    let after-turn = after-gather4 .before .before .before .before .before in
+    let after-timed = c .before .before .before .before .before in
+    let after-turn = after-timed .before .before .before .before .before in
     let given = after-turn .before .before .before .before .before .pre in (
-      net-of (given .0) _ (after-timed .before .known .ensures) _ (after-timed .timed .ensures) _ (after-turn .turn .ensures) _ (after-gather4 .before .before .before .before .posts .ensures) _
-          (after-gather4 .before .before .before .gather .ensures) _ (after-gather4 .before .before .gather2 .ensures) _ (after-gather4 .before .gather3 .ensures) _ (after-gather4 .gather4 .ensures) _
+      net-of (given .0) _ (after-timed .before .known .ensures) _ (after-timed .timed .ensures) _ (after-turn .turn .ensures) _
           (after-timed .before .before .before .before .inputs-of .ensures),
       given .1,
     )
@@ -47,7 +30,7 @@ cycles-requires c κs =
 keep-requires : tie.Need-keep-requires
 keep-requires c κs =
     let after-cycles = c .before .before .before in
-    let given = after-cycles .before .before .before .before .before .before .before .before .before .before .before .before .before .before .before .before .before .before .before .before .before .before .before .before .before .before .pre in
+    let given = after-cycles .before .before .before .before .before .before .before .before .before .before .before .before .before .before .before .before .pre in
     (given .1 .long, after-cycles .cycles .ensures .small)
 
 same-length : tie.Need-same-length
@@ -66,11 +49,6 @@ course-spec =
     tie.close
     (tie.spec
     turn-requires
-    posts-requires
-    gather-requires
-    gather-requires-2
-    gather-requires-3
-    gather-requires-4
     inputs-of-requires
     known-requires
     timed-requires

@@ -46,14 +46,30 @@ returns-4 c =
     refused-by-lent _ _ _ _ _ (judged .judge .ensures) (at .before .before .before .if3 .left) _ (at .times .ensures) _ _ (judged .before .before .before .before .weights .ensures) (judged .before .before .before .sorts .ensures)
     (c .before .before .judge-lent .ensures) (c .if4 .taken)
 
+posts-requires : tie.Need-posts-requires
+posts-requires c κs = search needs
+
+gather-requires : tie.Need-gather-requires
+gather-requires c κs = search needs
+
+gather-requires-2 : tie.Need-gather-requires-2
+gather-requires-2 c κs = search needs
+
+gather-requires-3 : tie.Need-gather-requires-3
+gather-requires-3 c κs = search needs
+
+gather-requires-4 : tie.Need-gather-requires-4
+gather-requires-4 c κs = search needs
+
 course-requires : tie.Need-course-requires
 course-requires c κs =
-    let at = c .before .before .before .before .before .before .before .before .before .before .before .before in
+    let rows = c .before .before .before .before .before .before .before .before .before .before .before in
+    let at = rows .before .before .before .before .before .before .before .before .before .before .before in
     let judged = at .before .before .before .before .before in
     let weights = judged .before .before .before .before .weights .ensures in
     let sorts = judged .before .before .before .sorts .ensures in
-    let none = ap (λ (a : Answer). a .number) (sym (c .before .before .before .before .before .before .before .before .judge-lent .ensures)) ∙ c .before .before .before .before .before .before .if4 .left in (
-      read _ _ (judged .judge .ensures) (at .before .before .before .if3 .left) _ (at .times .ensures) _ _ weights sorts,
+    let none = ap (λ (a : Answer). a .number) (sym (rows .before .before .before .before .before .before .before .judge-lent .ensures)) ∙ rows .before .before .before .before .before .if4 .left in (
+      read _ _ (judged .judge .ensures) (at .before .before .before .if3 .left) _ (at .times .ensures) _ _ weights sorts _ (rows .before .before .before .before .posts .ensures) _ (rows .before .before .before .gather .ensures) _ (rows .before .before .gather2 .ensures) _ (rows .before .gather3 .ensures) _ (rows .gather4 .ensures),
       ready _ _ _ _ _ (judged .judge .ensures) (at .before .before .before .if3 .left) _ (at .times .ensures) _ _ weights sorts none,
     )
 
@@ -65,9 +81,9 @@ same-length-4 c = search needs
 
 returns-5 : tie.Need-returns-5
 returns-5 c =
-    let at = c .before .before .before .before .before .before .before .before .before .before .before .before .before .before .before .before .before in
+    let at = c .before .before .before .before .before .before .before .before .before .before .before .before .before .before .before .before .before .before .before .before .before .before .before .before .before .before .before in
     let judged = at .before .before .before .before .before in
-    let none = ap (λ (a : Answer). a .number) (sym (c .before .before .before .before .before .before .before .before .before .before .before .before .before .judge-lent .ensures)) ∙ c .before .before .before .before .before .before .before .before .before .before .before .if4 .left in
+    let none = ap (λ (a : Answer). a .number) (sym (c .before .before .before .before .before .before .before .before .before .before .before .before .before .before .before .before .before .before .before .before .before .before .before .judge-lent .ensures)) ∙ c .before .before .before .before .before .before .before .before .before .before .before .before .before .before .before .before .before .before .before .before .before .if4 .left in
     ran-through _ _ _ _ _ (judged .judge .ensures) (at .before .before .before .if3 .left) _ (at .times .ensures) _ _ (judged .before .before .before .before .weights .ensures) (judged .before .before .before .sorts .ensures)
     none _ _ _ (c .before .before .before .before .course .ensures)
 
@@ -86,6 +102,11 @@ run-spec =
     same-length
     same-length-2
     returns-4
+    posts-requires
+    gather-requires
+    gather-requires-2
+    gather-requires-3
+    gather-requires-4
     course-requires
     same-length-3
     same-length-4
