@@ -6,4 +6,5 @@ pub mod Verdict
 pub mod Starts
 pub mod Lent
 pub mod Runs
+pub mod Demands
 pub mod Wrong

@@ -56,7 +56,7 @@ says-low (Run-says.room h) = omega arith
 
 module _ (bs img ws report : List ℕ) where
   -- What run's checks decide is the acceptance or a number from 1 to 12.
-  verdict-form : (verdict bs img ws report ≡ accepted 0)
+  pub verdict-form : (verdict bs img ws report ≡ accepted 0)
       ⊎ ((n : ℕ) × (w : ℕ) × (0 < n) × (n < 13) × (verdict bs img ws report ≡ refused n w))
   verdict-form =
       ⊎-elim inl
