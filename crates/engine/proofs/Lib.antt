@@ -1,4 +1,4 @@
--- The laws of the engine: its images, its stages, what start and run leave, and the wrong engines that its statements refuse.
+-- The laws of the engine: its images, its stages, what start and run leave, and what the demands say of it.
 pub mod Stored
 pub mod Fresh
 pub mod Stages
@@ -7,4 +7,3 @@ pub mod Starts
 pub mod Lent
 pub mod Runs
 pub mod Demands
-pub mod Wrong
