@@ -1,20 +1,24 @@
 -- Reading an image: a record's columns are four bytes, wherever the bytes end, and what is read so far stands in the arrays.
 use mathlib.Core.Bool.{Bool, true, false, _&&_, _||_}
 use mathlib.Core.List.{List}
+use mathlib.Core.Logic.{⊎-elim}
 use mathlib.Core.Path.{_≡_, refl, sym, ap, ap₂, _∙_}
-use Prim.Native.Nat.{ℕ, _+_, _*_, _≤_, _<_}
+use Prim.Native.Nat.{ℕ, _+_, _*_, _-_, _/_, _%_, _^_, _≤_, _<_}
 use native.Mathlib.Nat.{not-suc-le-zero, add-zero}
 use native.Mathlib.Omega.{arith}
 use lib.Dec.{eqb, ltb}
-use lib.ListN.{length, getD, set}
+use lib.ListN.{length, getD, set, take, drop}
 use lib.Seq.{getD-set-same, getD-set-other}
 use borrow.Author.Count.{below-more}
-use borrow.Author.Tests.{eq-eqb, ne-eqb, lt-ltb}
-use Rattle.meaning.specs.Bytes.{bit}
+use borrow.Author.Tests.{eq-eqb, ne-eqb, lt-ltb, ltb-true, ltb-false}
+use Rattle.meaning.specs.Bytes.{bit, number as word-number}
 use Rattle.meaning.specs.Image.{image, state}
+use Rattle.meaning.proofs.Bool.{either, or-false-left, or-false-right}
 use Rattle.meaning.proofs.Bytes.{cut-read}
-use Rattle.sets.proofs.Bits.{bit-zero}
+use Rattle.sets.proofs.Bits.{bit-zero, same-set}
+use Rattle.words.proofs.Words.{zero-word}
 use Rattle.image.specs.Held.{Lists}
+use Rattle.image.specs.Records.{Spells, Quiet}
 
 -- The number and the third byte of a record.
 pub number-at : (bs : List ℕ) (k : ℕ) → k < 192 → image bs .number k ≡ getD bs (4 * k) 0 + 256 * getD bs (4 * k + 1) 0
@@ -27,10 +31,52 @@ pub third-at : (bs : List ℕ) (k : ℕ) → k < 192 → image bs .third k ≡ g
 unfolding image
 third-at bs k h = cut-read 4 192 k 2 bs h (omega arith)
 
--- A transition has a reset order exactly if its third byte is 1.
-pub order-at : (bs : List ℕ) (t : ℕ) → t < 64 → state (image bs) .order t ≡ eqb (getD bs (4 * (128 + t) + 2) 0) 1
+pub fourth-at : (bs : List ℕ) (k : ℕ) → k < 192 → image bs .fourth k ≡ getD bs (4 * k + 3) 0
+unfolding image
+fourth-at bs k h = cut-read 4 192 k 3 bs h (omega arith)
+
+-- Four bytes, put together, spell their record.
+pub spells : (bs : List ℕ) (k a b c d : ℕ) → k < 192 → a < 256 → b < 256 → c < 256 → d < 256 → a ≡ getD bs (4 * k) 0
+    → b ≡ getD bs (4 * k + 1) 0 → c ≡ getD bs (4 * k + 2) 0 → d ≡ getD bs (4 * k + 3) 0 → Spells (image bs) k (a + 256 * (b + 256 * (c + 256 * d)))
+spells bs k a b c d h la lb lc ld ea eb ec ed =
+    record {
+      number = omega (arith, number-at bs k h);
+      third = omega (arith, third-at bs k h);
+      fourth = omega (arith, fourth-at bs k h);
+    }
+
+-- Where two numbers put together are 0, both are.
+pub both-zero : (a b r : ℕ) → a < 2 ^ 64 → b < 2 ^ 64 → ((j : ℕ) → bit r j ≡ (bit a j || bit b j)) → r ≡ 0 → (a ≡ 0) × (b ≡ 0)
+both-zero a b r la lb joined e =
+    let none : (j : ℕ) → (bit a j || bit b j) ≡ false = λ j. sym (joined j) ∙ ap (λ (x : ℕ). bit x j) e ∙ bit-zero j in (
+      same-set a 0 la (omega arith) (λ j h. or-false-left (bit a j) _ (none j) ∙ sym (bit-zero j)),
+      same-set b 0 lb (omega arith) (λ j h. or-false-right (bit a j) _ (none j) ∙ sym (bit-zero j)),
+    )
+
+-- Eight words of 0 are sixteen records of 0.
+pub quiet-is : (bs : List ℕ) (k : ℕ) → k < 192 → k % 16 ≡ 0 → ((i : ℕ) → i < 8 → word-number (take 8 (drop (8 * (k / 2 + i)) bs)) ≡ 0)
+    → Quiet (image bs) k
+quiet-is bs k h e zero =
+    record {
+      whole = e;
+      blank = λ n l.
+          let at : (j : ℕ) → j < 4 → getD bs (4 * (k + n) + j) 0 ≡ 0 = λ j q.
+          let there : 4 * (k + n) + j ≡ 8 * (k / 2 + n / 2) + (4 * (n % 2) + j) = omega arith in
+          ap (λ (i : ℕ). getD bs i 0) there ∙ zero-word bs (k / 2 + n / 2) (4 * (n % 2) + j) (omega arith) (zero (n / 2) (omega arith)) in
+          let first : getD bs (4 * (k + n)) 0 ≡ 0 = ap (λ (i : ℕ). getD bs i 0) (sym (add-zero (4 * (k + n)))) ∙ at 0 (omega arith) in
+          record {
+            number = omega (arith, number-at bs (k + n) (omega arith), first, at 1 (omega arith));
+            third = omega (arith, third-at bs (k + n) (omega arith), at 2 (omega arith));
+            fourth = omega (arith, fourth-at bs (k + n) (omega arith), at 3 (omega arith));
+          };
+    }
+
+-- Records that are 0 have no reset order.
+pub quiet-orders : (bs : List ℕ) (t : ℕ) → Quiet (image bs) (128 + t) → (j : ℕ) → t ≤ j → j < t + 16 → state (image bs) .order j ≡ false
 unfolding state
-order-at bs t h = ap (λ (x : ℕ). eqb x 1) (third-at bs (128 + t) (omega arith))
+quiet-orders bs t q j l h =
+    let there : 128 + j ≡ 128 + t + (j - t) = omega arith in
+    ap (λ (k : ℕ). eqb (image bs .third k) 1) there ∙ ap (λ (x : ℕ). eqb x 1) (sym (q .blank (j - t) (omega arith) .third))
 
 -- The numbers read so far: none, and one more.
 pub lists-none : (f : ℕ → ℕ) (xs : List ℕ) → Lists 0 f xs
@@ -53,9 +99,15 @@ pub record Marked (t : ℕ) (f : ℕ → Bool) (s : ℕ) : Type 0 where
 pub marked-none : (f : ℕ → Bool) → Marked 0 f 0
 marked-none f = record { below = λ j h. absurd (not-suc-le-zero h); above = λ j h. bit-zero j }
 
-pub marked-same : (t : ℕ) (f : ℕ → Bool) (s : ℕ) → Marked t f s → f t ≡ false → Marked (t + 1) f s
-marked-same t f s m e =
-    record { below = below-more _ t (m .below) (m .above t (omega arith) ∙ sym e); above = λ j h. m .above j (omega arith) }
+pub marked-same : (t n : ℕ) (f : ℕ → Bool) (s : ℕ) → Marked t f s → ((j : ℕ) → t ≤ j → j < t + n → f j ≡ false) → Marked (t + n) f s
+marked-same t n f s m off =
+    record {
+      below = λ j h.
+          ⊎-elim (λ (e : ltb j t ≡ true). m .below j (ltb-true j t e))
+          (λ (e : ltb j t ≡ false). m .above j (ltb-false j t e) ∙ sym (off j (ltb-false j t e) h))
+          (either (ltb j t));
+      above = λ j h. m .above j (omega arith);
+    }
 
 pub marked-more : (t : ℕ) (f : ℕ → Bool) (s r : ℕ) → Marked t f s → f t ≡ true → t < 64
     → ((j : ℕ) → bit r j ≡ (bit s j || (eqb t j && ltb t 64))) → Marked (t + 1) f r

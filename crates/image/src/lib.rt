@@ -1,10 +1,11 @@
 // A state image read into arrays, and written from them.
-ghost use mathlib.Core.Bool.{cond};
+ghost use mathlib.Core.Bool.{true, cond};
 ghost use mathlib.Core.Path.{_≡_};
 ghost use Prim.Native.Nat.{ℕ, _≤_, _<_};
 ghost use lib.ListN.{length, getD};
 ghost use Rattle.meaning.specs.Bytes.{bit};
 ghost use Rattle.meaning.specs.Image.{image, state, image-bytes};
+ghost use Rattle.image.specs.Records.{Spells, Quiet};
 ghost use Rattle.image.specs.Held.{Holds, held, Small, Lists};
 ghost use Rattle.image.specs.Stored.{Room, Stored};
 
@@ -16,11 +17,48 @@ pub struct Held {
 }
 
 // Byte i, and 0 past the last.
-fn byte(bytes: &[u8], i: usize) -> u32
+fn byte(bytes: &[u8], i: usize) -> u8
     ensures { λ r. ⌜ r ≡ getD (now (bytes .entry)) i 0 ⌝ }
-    ensures { λ r. ⌜ r ≤ 255 ⌝ }
 {
-    if i < bytes.len() { bytes[i] as u32 } else { 0 }
+    if i < bytes.len() { bytes[i] } else { 0 }
+}
+
+// The four bytes of record k as one number, the lowest first.
+pub fn spelled(bytes: &[u8], k: usize) -> u64
+    ensures { λ r. ⌜ (k < 192 → Spells (image (now (bytes .entry))) k r) ⌝ }
+{
+    if 192 <= k {
+        return 0;
+    }
+    let at = 4 * k;
+    words::four(
+        byte(bytes, at),
+        byte(bytes, at + 1),
+        byte(bytes, at + 2),
+        byte(bytes, at + 3),
+    )
+}
+
+// Are the sixteen records from k on, a multiple of sixteen, seen to be 0? They are read eight bytes at a time.
+pub fn quiet(bytes: &[u8], k: usize) -> bool
+    ensures { λ r. ⌜ (r ≡ true → Quiet (image (now (bytes .entry))) k) ⌝ }
+{
+    if bytes.len() != 768 {
+        return false;
+    }
+    if 192 <= k {
+        return false;
+    }
+    if k % 16 != 0 {
+        return false;
+    }
+    let mut any = 0u64;
+    let mut i = 0;
+    while i < 8 {
+        any = sets::union(any, words::word(bytes, k / 2 + i));
+        i += 1;
+    }
+    any == 0
 }
 
 // The two-byte number with which record k begins.
@@ -29,9 +67,7 @@ fn number(bytes: &[u8], k: usize) -> u32
     ensures { λ r. ⌜ r ≡ image (now (bytes .entry)) .number k ⌝ }
     ensures { λ r. ⌜ r ≤ 65535 ⌝ }
 {
-    let low = byte(bytes, 4 * k);
-    let high = byte(bytes, 4 * k + 1);
-    low + 256 * high
+    (spelled(bytes, k) % 65536) as u32
 }
 
 // The tokens of each place.
@@ -60,17 +96,29 @@ fn counters(bytes: &[u8]) -> [u32; 64]
     xs
 }
 
-// The set of the transitions with a reset order: those whose third byte is 1.
+// Has transition t a reset order? Its third byte is 1.
+fn ordered(bytes: &[u8], t: usize) -> bool
+    requires { ⌜ t < 64 ⌝ }
+    ensures { λ r. ⌜ r ≡ state (image (now (bytes .entry))) .order t ⌝ }
+{
+    spelled(bytes, 128 + t) / 65536 % 256 == 1
+}
+
+// The set of the transitions with a reset order; sixteen records that are 0 are passed over at once.
 fn orders(bytes: &[u8]) -> u64
     ensures { λ r. ⌜ ((t : ℕ) → t < 64 → bit r t ≡ state (image (now (bytes .entry))) .order t) ⌝ }
 {
     let mut set = 0u64;
     let mut t = 0;
     while t < 64 {
-        if byte(bytes, 4 * (128 + t) + 2) == 1 {
-            set = sets::with(set, t);
+        if quiet(bytes, 128 + t) {
+            t += 16;
+        } else {
+            if ordered(bytes, t) {
+                set = sets::with(set, t);
+            }
+            t += 1;
         }
-        t += 1;
     }
     set
 }
