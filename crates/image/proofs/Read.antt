@@ -3,20 +3,20 @@ use mathlib.Core.Bool.{Bool, true, false, _&&_, _||_}
 use mathlib.Core.List.{List}
 use mathlib.Core.Logic.{⊎-elim}
 use mathlib.Core.Path.{_≡_, refl, sym, ap, ap₂, _∙_}
-use Prim.Native.Nat.{ℕ, _+_, _*_, _-_, _/_, _%_, _^_, _≤_, _<_}
+use Prim.Native.Nat.{ℕ, _+_, _*_, _-_, _/_, _%_, _≤_, _<_}
 use native.Mathlib.Nat.{not-suc-le-zero, add-zero}
 use native.Mathlib.Omega.{arith}
+use lib.Bits.{bitOr, or-add-and, and-le-l, and-le-r}
 use lib.Dec.{eqb, ltb}
-use lib.ListN.{length, getD, set, take, drop}
+use lib.ListN.{length, getD, set}
 use lib.Seq.{getD-set-same, getD-set-other}
 use borrow.Author.Count.{below-more}
 use borrow.Author.Tests.{eq-eqb, ne-eqb, lt-ltb, ltb-true, ltb-false}
-use Rattle.meaning.specs.Bytes.{bit, number as word-number}
+use Rattle.meaning.specs.Bytes.{bit}
 use Rattle.meaning.specs.Image.{image, state}
-use Rattle.meaning.proofs.Bool.{either, or-false-left, or-false-right}
+use Rattle.meaning.proofs.Bool.{either}
 use Rattle.meaning.proofs.Bytes.{cut-read}
-use Rattle.sets.proofs.Bits.{bit-zero, same-set}
-use Rattle.words.proofs.Words.{zero-word}
+use Rattle.sets.proofs.Bits.{bit-zero}
 use Rattle.image.specs.Held.{Lists}
 use Rattle.image.specs.Records.{Spells, Quiet}
 
@@ -45,29 +45,23 @@ spells bs k a b c d h la lb lc ld ea eb ec ed =
       fourth = omega (arith, fourth-at bs k h);
     }
 
--- Where two numbers put together are 0, both are.
-pub both-zero : (a b r : ℕ) → a < 2 ^ 64 → b < 2 ^ 64 → ((j : ℕ) → bit r j ≡ (bit a j || bit b j)) → r ≡ 0 → (a ≡ 0) × (b ≡ 0)
-both-zero a b r la lb joined e =
-    let none : (j : ℕ) → (bit a j || bit b j) ≡ false = λ j. sym (joined j) ∙ ap (λ (x : ℕ). bit x j) e ∙ bit-zero j in (
-      same-set a 0 la (omega arith) (λ j h. or-false-left (bit a j) _ (none j) ∙ sym (bit-zero j)),
-      same-set b 0 lb (omega arith) (λ j h. or-false-right (bit a j) _ (none j) ∙ sym (bit-zero j)),
-    )
+-- Where the bits of two bytes put together are 0, both bytes are.
+pub both-zero : (a b : ℕ) → bitOr a b ≡ 0 → (a ≡ 0) × (b ≡ 0)
+both-zero a b e = (omega (arith, or-add-and a b, and-le-r a b), omega (arith, or-add-and a b, and-le-l a b))
 
--- Eight words of 0 are sixteen records of 0.
-pub quiet-is : (bs : List ℕ) (k : ℕ) → k < 192 → k % 16 ≡ 0 → ((i : ℕ) → i < 8 → word-number (take 8 (drop (8 * (k / 2 + i)) bs)) ≡ 0)
-    → Quiet (image bs) k
+-- Sixty-four bytes of 0 are sixteen records of 0.
+pub quiet-is : (bs : List ℕ) (k : ℕ) → k < 192 → k % 16 ≡ 0 → ((i : ℕ) → i < 64 → getD bs (4 * k + i) 0 ≡ 0) → Quiet (image bs) k
 quiet-is bs k h e zero =
     record {
       whole = e;
       blank = λ n l.
-          let at : (j : ℕ) → j < 4 → getD bs (4 * (k + n) + j) 0 ≡ 0 = λ j q.
-          let there : 4 * (k + n) + j ≡ 8 * (k / 2 + n / 2) + (4 * (n % 2) + j) = omega arith in
-          ap (λ (i : ℕ). getD bs i 0) there ∙ zero-word bs (k / 2 + n / 2) (4 * (n % 2) + j) (omega arith) (zero (n / 2) (omega arith)) in
-          let first : getD bs (4 * (k + n)) 0 ≡ 0 = ap (λ (i : ℕ). getD bs i 0) (sym (add-zero (4 * (k + n)))) ∙ at 0 (omega arith) in
+          let at : (j i : ℕ) → j < 4 → i ≡ 4 * (k + n) + j → getD bs i 0 ≡ 0 = λ j i q s.
+          let there : i ≡ 4 * k + (4 * n + j) = omega arith in
+          ap (λ (x : ℕ). getD bs x 0) there ∙ zero (4 * n + j) (omega arith) in
           record {
-            number = omega (arith, number-at bs (k + n) (omega arith), first, at 1 (omega arith));
-            third = omega (arith, third-at bs (k + n) (omega arith), at 2 (omega arith));
-            fourth = omega (arith, fourth-at bs (k + n) (omega arith), at 3 (omega arith));
+            number = omega (arith, number-at bs (k + n) (omega arith), at 0 (4 * (k + n)) (omega arith) (omega arith), at 1 (4 * (k + n) + 1) (omega arith) (omega arith));
+            third = omega (arith, third-at bs (k + n) (omega arith), at 2 (4 * (k + n) + 2) (omega arith) (omega arith));
+            fourth = omega (arith, fourth-at bs (k + n) (omega arith), at 3 (4 * (k + n) + 3) (omega arith) (omega arith));
           };
     }
 

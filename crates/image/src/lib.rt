@@ -39,7 +39,7 @@ pub fn spelled(bytes: &[u8], k: usize) -> u64
     )
 }
 
-// Are the sixteen records from k on, a multiple of sixteen, seen to be 0? They are read eight bytes at a time.
+// Are the sixteen records from k on, a multiple of sixteen, seen to be 0?
 pub fn quiet(bytes: &[u8], k: usize) -> bool
     ensures { λ r. ⌜ (r ≡ true → Quiet (image (now (bytes .entry))) k) ⌝ }
 {
@@ -52,10 +52,11 @@ pub fn quiet(bytes: &[u8], k: usize) -> bool
     if k % 16 != 0 {
         return false;
     }
-    let mut any = 0u64;
+    let at = 4 * k;
+    let mut any = 0u8;
     let mut i = 0;
-    while i < 8 {
-        any = sets::union(any, words::word(bytes, k / 2 + i));
+    while i < 64 {
+        any = any | bytes[at + i];
         i += 1;
     }
     any == 0
