@@ -1,4 +1,4 @@
--- The loop keeps that no place's record before p is wrong.
+-- The loop keeps that no place's record before p is wrong: each turn tests one, or passes over sixteen that are 0.
 use mathlib.Core.Bool.{false}
 use mathlib.Core.Path.{_≡_, sym, _∙_}
 use Prim.Native.Nat.{ℕ, _-_, _≤_, _<_}
@@ -7,6 +7,7 @@ use borrow.Author.Needs.{needs}
 use Rattle.meaning.proofs.Below.{first-is, first-none}
 use Rattle.table.proofs.Firsts.{none-yet, none-more}
 use Rattle.fit.specs.Fit.{wrong-place-by}
+use Rattle.fit.proofs.Spelled.{none-on, spelled-place, quiet-places}
 use Rattle.fit.proofs.first_place.Statement.{statement}
 use Rattle.fit.proofs.first_place.Tie as tie
 
@@ -19,32 +20,24 @@ abbrev μ-loop : tie.MeasureT-loop
 loop-holds : tie.Need-loop-holds Inv-loop μ-loop
 loop-holds c = (omega arith, none-yet _)
 
-mul-at : tie.Need-mul-at Inv-loop μ-loop
-mul-at c = search needs
+quiet-requires : tie.Need-quiet-requires Inv-loop μ-loop
+quiet-requires c κs = search needs
 
-byte-requires : tie.Need-byte-requires Inv-loop μ-loop
-byte-requires c κs = search needs
+add-p : tie.Need-add-p Inv-loop μ-loop
+add-p c = search needs
 
-add-byte : tie.Need-add-byte Inv-loop μ-loop
-add-byte c = search needs
+loop-less : tie.Need-loop-less Inv-loop μ-loop
+loop-less c = search needs
 
-byte-requires-2 : tie.Need-byte-requires-2 Inv-loop μ-loop
-byte-requires-2 c κs = search needs
+loop-again : tie.Need-loop-again Inv-loop μ-loop
+loop-again c =
+    let at = c .before .before .before .loop in
+    let a = c .before .before .before .before .before .args in
+    let blank = c .before .quiet .ensures (c .if1 .taken) in
+    (omega (arith, blank .whole), none-on (at .p) 16 _ (at .inv .1) (quiet-places (a .image .now) (a .rows .now) (at .p) blank))
 
-number-requires : tie.Need-number-requires Inv-loop μ-loop
-number-requires c κs = search needs
-
-add-byte-2 : tie.Need-add-byte-2 Inv-loop μ-loop
-add-byte-2 c = search needs
-
-byte-requires-3 : tie.Need-byte-requires-3 Inv-loop μ-loop
-byte-requires-3 c κs = search needs
-
-add-byte-3 : tie.Need-add-byte-3 Inv-loop μ-loop
-add-byte-3 c = search needs
-
-byte-requires-4 : tie.Need-byte-requires-4 Inv-loop μ-loop
-byte-requires-4 c κs = search needs
+spelled-requires : tie.Need-spelled-requires Inv-loop μ-loop
+spelled-requires c κs = search needs
 
 mul-wrong-place : tie.Need-mul-wrong-place Inv-loop μ-loop
 mul-wrong-place c = search needs
@@ -55,37 +48,31 @@ element-copy-out-wrong-place c = search needs
 wrong-place-requires : tie.Need-wrong-place-requires Inv-loop μ-loop
 wrong-place-requires c κs = search needs
 
--- The test of a place is that of its bytes and its row.
+-- The test of a place is that of the number that its record spells.
 tested : (c : tie.After-wrong-place Inv-loop μ-loop)
-    → let at = c .before .before .before .before .before .before .before .before in
+    → let at = c .before .before .before .before .before .before in
     let a = at .before .before .args in c .wrong-place .result ≡ wrong-place-by (a .image .now) (a .rows .now) (at .loop .p)
-unfolding wrong-place-by
 tested c =
-    let named = c .before .before .before .before in
-    rw (
-      c .wrong-place .ensures,
-      c .before .before .byte4 .ensures,
-      c .before .before .before .byte3 .ensures,
-      named .number .ensures,
-      named .before .byte2 .ensures,
-      named .before .before .byte .ensures,
-    )
+    let at = c .before .before .before .before .before .before in
+    let a = at .before .before .args in
+    let read = c .before .before .spelled in
+    c .wrong-place .ensures ∙ spelled-place (a .image .now) (a .rows .now) (at .loop .p) (read .result) (read .ensures (omega arith))
 
 returns : tie.Need-returns Inv-loop μ-loop
 returns c =
-    let at = c .before .before .before .before .before .before .before .before .before in
-    sym (first-is 128 _ (at .loop .p) (omega arith) (sym (tested (c .before)) ∙ c .if1 .taken) (at .loop .inv .1))
+    let at = c .before .before .before .before .before .before .before in
+    sym (first-is 128 _ (at .loop .p) (omega arith) (sym (tested (c .before)) ∙ c .if2 .taken) (at .loop .inv .1))
 
-add-p : tie.Need-add-p Inv-loop μ-loop
-add-p c = search needs
+add-p-2 : tie.Need-add-p-2 Inv-loop μ-loop
+add-p-2 c = search needs
 
-loop-less : tie.Need-loop-less Inv-loop μ-loop
-loop-less c = search needs
+loop-less-2 : tie.Need-loop-less-2 Inv-loop μ-loop
+loop-less-2 c = search needs
 
-loop-again : tie.Need-loop-again Inv-loop μ-loop
-loop-again c =
-    let at = c .before .before .before .before .before .before .before .before .before in
-    (omega arith, none-more (at .loop .p) _ (at .loop .inv .1) (sym (tested (c .before)) ∙ c .if1 .left))
+loop-again-2 : tie.Need-loop-again-2 Inv-loop μ-loop
+loop-again-2 c =
+    let at = c .before .before .before .before .before .before .before in
+    (omega arith, none-more (at .loop .p) _ (at .loop .inv .1) (sym (tested (c .before)) ∙ c .if2 .left))
 
 returns-2 : tie.Need-returns-2 Inv-loop μ-loop
 returns-2 c = sym (first-none 128 _ (λ k h. c .before .loop .inv .1 k (omega arith)))
@@ -97,20 +84,16 @@ first-place-spec =
     Inv-loop
     μ-loop
     loop-holds
-    mul-at
-    byte-requires
-    add-byte
-    byte-requires-2
-    number-requires
-    add-byte-2
-    byte-requires-3
-    add-byte-3
-    byte-requires-4
+    quiet-requires
+    add-p
+    loop-less
+    loop-again
+    spelled-requires
     mul-wrong-place
     element-copy-out-wrong-place
     wrong-place-requires
     returns
-    add-p
-    loop-less
-    loop-again
+    add-p-2
+    loop-less-2
+    loop-again-2
     returns-2)

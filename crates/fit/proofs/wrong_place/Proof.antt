@@ -1,33 +1,25 @@
--- `wrong_place` answers its question: each return is by the first test that decides, or by the last test alone.
-use mathlib.Core.Bool.{or-true}
+-- `wrong_place` answers its question: 0 never is wrong, what passes two bytes always is, and else the index decides.
+use mathlib.Core.Path.{sym, ap, _∙_}
+use mathlib.Core.Bool.{not}
 use borrow.Author.Needs.{needs}
-use borrow.Author.Tests.{eq-eqb, ne-eqb}
+use Rattle.meaning.specs.Bytes.{bit}
+use Rattle.fit.proofs.Spelled.{place-high, place-low}
 use Rattle.fit.proofs.wrong_place.Statement.{statement}
 use Rattle.fit.proofs.wrong_place.Tie as tie
 
 returns : tie.Need-returns
-returns c = rw (ne-eqb (c .before .args .third) 0 (c .if1 .taken))
+returns c = rw (c .if1 .taken)
 
 returns-2 : tie.Need-returns-2
-returns-2 c = rw (ne-eqb (c .before .before .args .fourth) 0 (c .if2 .taken), or-true)
-
-returns-3 : tie.Need-returns-3
-returns-3 c =
-    let a = c .before .before .before .args in
-    rw (eq-eqb (a .third) 0 (c .before .before .if1 .left), eq-eqb (a .fourth) 0 (c .before .if2 .left), eq-eqb (a .tokens) 0 (c .if3 .taken))
+returns-2 c = let a = c .before .before .args in sym (place-high (a .x) (bit (a .line) 0) (c .if2 .taken))
 
 has-requires : tie.Need-has-requires
 has-requires c κs = search needs
 
-returns-4 : tie.Need-returns-4
-returns-4 c =
-    let a = c .before .before .before .before .args in
-    rw (
-      eq-eqb (a .third) 0 (c .before .before .before .if1 .left),
-      eq-eqb (a .fourth) 0 (c .before .before .if2 .left),
-      ne-eqb (a .tokens) 0 (c .before .if3 .left),
-      c .has .ensures,
-    )
+returns-3 : tie.Need-returns-3
+returns-3 c =
+    let a = c .before .before .before .args in
+    ap not (c .has .ensures) ∙ sym (place-low (a .x) (bit (a .line) 0) (c .before .before .if1 .left) (c .before .if2 .left))
 
 pub wrong-place-spec : {M : Type 1} → statement M
-wrong-place-spec = tie.close (tie.spec returns returns-2 returns-3 has-requires returns-4)
+wrong-place-spec = tie.close (tie.spec returns returns-2 has-requires returns-3)
