@@ -23,6 +23,18 @@ module _ (m n : ℕ) (p : ℕ → Bool) where
   first-late : m ≤ first m p → m + first n (λ k. p (m + k)) ≡ first (m + n) p
   first-late l = first-after m n p (λ k h. first-before m p k (omega arith))
 
+-- Candidates in turns of n: those before m were seen not to pass, and i is the first of the next n.
+module _ (m n i : ℕ) (p : ℕ → Bool) (before : (k : ℕ) → k < m → p k ≡ false) (e : i ≡ first n (λ k. p (m + k))) where
+  so-far : m + i ≡ first (m + n) p
+  so-far = ap (λ (x : ℕ). m + x) e ∙ first-after m n p before
+
+  pub found-on : (all : ℕ) → m + n ≤ all → i < n → m + i ≡ first all p
+  found-on all l h =
+      so-far ∙ sym (first-is all p (first (m + n) p) (omega (arith, so-far)) (first-passes (m + n) p (omega (arith, so-far))) (first-before (m + n) p))
+
+  pub none-on : n ≤ i → (k : ℕ) → k < m + n → p k ≡ false
+  none-on h k l = first-before (m + n) p k (omega (arith, so-far))
+
 module _ (image rows : List ℕ) (x : Intervals) where
   -- A place's test is that of its record, and a transition's that of the record 128 behind.
   places : first 128 (wrong-place-by image rows) ≡ first 128 (wrong-by image rows x)

@@ -1,18 +1,17 @@
 -- The tests of a record on the number that its four bytes spell, and of sixteen records that are 0.
-use mathlib.Core.Bool.{Bool, true, false, not, _&&_, _||_, or-true}
+use mathlib.Core.Bool.{Bool, true, false, not, _&&_, _||_, or-true, or-false}
 use mathlib.Core.List.{List}
-use mathlib.Core.Logic.{⊎-elim}
 use mathlib.Core.Path.{_≡_, refl, sym, _∙_}
-use Prim.Native.Nat.{ℕ, _+_, _-_, _/_, _%_, _≤_, _<_}
+use Prim.Native.Nat.{ℕ, zero, suc, _+_, _*_, _/_, _%_, _≤_, _<_}
 use native.Mathlib.Omega.{arith}
 use lib.Dec.{ltb, eqb}
 use lib.ListN.{getD}
 use borrow.Author.Tests.{eq-eqb, ne-eqb, lt-ltb, le-ltb, ltb-true, ltb-false, eqb-true, eqb-false}
 use Rattle.meaning.specs.Image.{image}
-use Rattle.meaning.proofs.Bool.{either}
 use Rattle.table.specs.Index.{has-place}
 use Rattle.timing.specs.declared.Intervals.{Intervals}
 use Rattle.image.specs.Records.{Spells, Quiet}
+use Rattle.image.proofs.Read.{quiet-is}
 use Rattle.fit.specs.Fit.{wrong-place-by, most-by, order-by, wrong-transition-by}
 
 -- A place's record x, where the place is declared or not.
@@ -31,24 +30,28 @@ past x b h = go (eqb (x / 65536 % 256) 0) refl
     go true e = rw (e, ne-eqb (x / 16777216) 0 (λ q. omega (arith, eqb-true (x / 65536 % 256) 0 e)))
     go false e = rw e
 
-pub place-high : (x : ℕ) (declared : Bool) → 65535 < x → place-test x declared ≡ true
-place-high x declared h = past x _ h
+pub place-high : (x : ℕ) (declared : Bool) → ¬ (x / 65536 ≡ 0) → place-test x declared ≡ true
+place-high x declared n = past x _ (high (x / 65536) refl)
+  where
+    high : (k : ℕ) → x / 65536 ≡ k → 65535 < x
+    high zero e = absurd (n e)
+    high (suc k) e = omega arith
 
-pub place-low : (x : ℕ) (declared : Bool) → ¬ (x ≡ 0) → x ≤ 65535 → place-test x declared ≡ not declared
-place-low x declared n h =
-    rw (
-      eq-eqb (x / 65536 % 256) 0 (omega arith),
-      eq-eqb (x / 16777216) 0 (omega arith),
-      ne-eqb (x % 65536) 0 (λ e. n (omega arith)),
-    )
+-- With both of them 0 the first two decide, and the index.
+pub place-zero : (x : ℕ) (declared : Bool) → x / 65536 ≡ 0 → x % 65536 ≡ 0 → place-test x declared ≡ false
+place-zero x declared h e = rw (eq-eqb (x / 65536 % 256) 0 (omega arith), eq-eqb (x / 16777216) 0 (omega arith), eq-eqb (x % 65536) 0 e)
+
+pub place-low : (x : ℕ) (declared : Bool) → x / 65536 ≡ 0 → ¬ (x % 65536 ≡ 0) → place-test x declared ≡ not declared
+place-low x declared h n =
+    rw (eq-eqb (x / 65536 % 256) 0 (omega arith), eq-eqb (x / 16777216) 0 (omega arith), ne-eqb (x % 65536) 0 n)
 
 -- A record of 0 passes both tests.
 pub transition-zero : (most order : ℕ) → transition-test 0 most order ≡ false
 transition-zero most order = rw (le-ltb most 0 (omega arith), le-ltb order 0 (omega arith))
 
 -- Any other fails that of an untimed transition.
-pub transition-any : (x : ℕ) → ¬ (x ≡ 0) → transition-test x 0 0 ≡ true
-transition-any x n = go (ltb 0 (x % 65536)) refl
+other : (x : ℕ) → ¬ (x ≡ 0) → transition-test x 0 0 ≡ true
+other x n = go (ltb 0 (x % 65536)) refl
   where
     third : (t : Bool) → ltb 0 (x % 65536) ≡ false → ltb 0 (x / 65536 % 256) ≡ t → transition-test x 0 0 ≡ true
     third true d e = rw (d, e)
@@ -59,22 +62,24 @@ transition-any x n = go (ltb 0 (x % 65536)) refl
     go true e = rw e
     go false e = third (ltb 0 (x / 65536 % 256)) e refl
 
--- A counter that is too high fails; else what stands above it must be a reset order alone.
-pub transition-high : (x most order : ℕ) → most < x % 65536 → transition-test x most order ≡ true
-transition-high x most order h = rw (lt-ltb most (x % 65536) h)
-
-pub transition-low : (x most : ℕ) → x % 65536 ≤ most → transition-test x most 1 ≡ ltb 1 (x / 65536)
-transition-low x most h = rw (le-ltb most (x % 65536) h) (go (ltb 1 (x / 65536)) refl)
+pub transition-untimed : (x : ℕ) → transition-test x 0 0 ≡ not (eqb x 0)
+transition-untimed x = go (eqb x 0) refl
   where
-    third : (t : Bool) → 1 < x / 65536 → ltb 1 (x / 65536 % 256) ≡ t → (ltb 1 (x / 65536 % 256) || not (eqb (x / 16777216) 0)) ≡ true
-    third true l e = rw e
-    third false l e = rw (e, ne-eqb (x / 16777216) 0 (λ q. omega (arith, ltb-false 1 (x / 65536 % 256) e)))
+    go : (t : Bool) → eqb x 0 ≡ t → transition-test x 0 0 ≡ not (eqb x 0)
+    go true e = rw (eqb-true x 0 e)
+    go false e = rw e (other x (eqb-false x 0 e))
 
-    go : (t : Bool) → ltb 1 (x / 65536) ≡ t → (ltb 1 (x / 65536 % 256) || not (eqb (x / 16777216) 0)) ≡ ltb 1 (x / 65536)
-    go true e = rw e (third (ltb 1 (x / 65536 % 256)) (ltb-true 1 (x / 65536) e) refl)
-    go false e =
-        let low = ltb-false 1 (x / 65536) e in
-        rw (e, le-ltb 1 (x / 65536 % 256) (omega (arith, low)), eq-eqb (x / 16777216) 0 (omega (arith, low)))
+-- More than a reset order above the counter fails; else the counter decides.
+pub transition-high : (x most : ℕ) → 1 < x / 65536 → transition-test x most 1 ≡ true
+transition-high x most l = go (ltb 1 (x / 65536 % 256)) refl
+  where
+    go : (t : Bool) → ltb 1 (x / 65536 % 256) ≡ t → transition-test x most 1 ≡ true
+    go true e = rw (e, or-true)
+    go false e = rw (ne-eqb (x / 16777216) 0 (λ q. omega (arith, ltb-false 1 (x / 65536 % 256) e)), or-true)
+
+pub transition-low : (x most : ℕ) → x / 65536 ≤ 1 → transition-test x most 1 ≡ ltb most (x % 65536)
+transition-low x most h =
+    rw (le-ltb 1 (x / 65536 % 256) (omega arith), eq-eqb (x / 16777216) 0 (omega arith)) (or-false _ ∙ or-false _)
 
 -- The tests are those of the records that the numbers spell.
 module _ (bs rows : List ℕ) where
@@ -82,10 +87,10 @@ module _ (bs rows : List ℕ) where
   unfolding wrong-place-by
   spelled-place p x s = rw (s .number, s .third, s .fourth)
 
-  pub quiet-places : (p : ℕ) → Quiet (image bs) p → (j : ℕ) → p ≤ j → j < p + 16 → wrong-place-by bs rows j ≡ false
-  quiet-places p q j l h =
-      let there : p + (j - p) ≡ j = omega arith in
-      sym (spelled-place j 0 (rw there at (q .blank (j - p) (omega arith))))
+  pub quiet-places : (p from to : ℕ) → p + 16 ≤ 128 → from ≡ 4 * p → to ≡ from + 64 → Quiet bs from to
+      → (j : ℕ) → j < 16 → wrong-place-by bs rows (p + j) ≡ false
+  quiet-places p from to l e f q j h =
+      sym (spelled-place (p + j) 0 (quiet-is bs from to (p + j) q (omega arith) (omega arith) (omega arith)))
 
 module _ (bs : List ℕ) (v : Intervals) where
   abbrev highest : ℕ → ℕ
@@ -98,13 +103,8 @@ module _ (bs : List ℕ) (v : Intervals) where
   unfolding wrong-transition-by
   spelled-transition t x s = rw (s .number, s .third, s .fourth)
 
-  pub quiet-transitions : (t : ℕ) → Quiet (image bs) (128 + t) → (j : ℕ) → t ≤ j → j < t + 16 → wrong-transition-by bs v j ≡ false
-  quiet-transitions t q j l h =
-      let there : 128 + t + (j - t) ≡ 128 + j = omega arith in
-      sym (spelled-transition j 0 (rw there at (q .blank (j - t) (omega arith)))) ∙ transition-zero (highest j) (last j)
-
--- What fails below i, and for the n from i on, fails below i + n.
-pub none-on : (i n : ℕ) (p : ℕ → Bool) → ((k : ℕ) → k < i → p k ≡ false) → ((k : ℕ) → i ≤ k → k < i + n → p k ≡ false)
-    → (k : ℕ) → k < i + n → p k ≡ false
-none-on i n p before behind k h =
-    ⊎-elim (λ (e : ltb k i ≡ true). before k (ltb-true k i e)) (λ (e : ltb k i ≡ false). behind k (ltb-false k i e) h) (either (ltb k i))
+  pub quiet-transitions : (t from to : ℕ) → t + 16 ≤ 64 → from ≡ 4 * (128 + t) → to ≡ from + 64 → Quiet bs from to
+      → (j : ℕ) → j < 16 → wrong-transition-by bs v (t + j) ≡ false
+  quiet-transitions t from to l e f q j h =
+      sym (spelled-transition (t + j) 0 (quiet-is bs from to (128 + (t + j)) q (omega arith) (omega arith) (omega arith)))
+      ∙ transition-zero (highest (t + j)) (last (t + j))

@@ -5,6 +5,7 @@ use mathlib.Core.Logic.{⊎-elim}
 use mathlib.Core.Path.{_≡_, refl, sym, ap, ap₂, _∙_}
 use Prim.Native.Nat.{ℕ, _+_, _*_, _-_, _/_, _%_, _≤_, _<_}
 use native.Mathlib.Nat.{not-suc-le-zero, add-zero}
+use native.Mathlib.Numerals.{add-one}
 use native.Mathlib.Omega.{arith}
 use lib.Bits.{bitOr, or-add-and, and-le-l, and-le-r}
 use lib.Dec.{eqb, ltb}
@@ -14,11 +15,12 @@ use borrow.Author.Count.{below-more}
 use borrow.Author.Tests.{eq-eqb, ne-eqb, lt-ltb, ltb-true, ltb-false}
 use Rattle.meaning.specs.Bytes.{bit}
 use Rattle.meaning.specs.Image.{image, state}
+use Rattle.meaning.proofs.Below.{last}
 use Rattle.meaning.proofs.Bool.{either}
 use Rattle.meaning.proofs.Bytes.{cut-read}
 use Rattle.sets.proofs.Bits.{bit-zero}
 use Rattle.image.specs.Held.{Lists}
-use Rattle.image.specs.Records.{Spells, Quiet}
+use Rattle.image.specs.Records.{Spells, Quiet, Marked}
 
 -- The number and the third byte of a record.
 pub number-at : (bs : List ℕ) (k : ℕ) → k < 192 → image bs .number k ≡ getD bs (4 * k) 0 + 256 * getD bs (4 * k + 1) 0
@@ -49,28 +51,30 @@ spells bs k a b c d h la lb lc ld ea eb ec ed =
 pub both-zero : (a b : ℕ) → bitOr a b ≡ 0 → (a ≡ 0) × (b ≡ 0)
 both-zero a b e = (omega (arith, or-add-and a b, and-le-r a b), omega (arith, or-add-and a b, and-le-l a b))
 
--- Sixty-four bytes of 0 are sixteen records of 0.
-pub quiet-is : (bs : List ℕ) (k : ℕ) → k < 192 → k % 16 ≡ 0 → ((i : ℕ) → i < 64 → getD bs (4 * k + i) 0 ≡ 0) → Quiet (image bs) k
-quiet-is bs k h e zero =
+-- Bytes of 0: none, and one more where its bits add nothing.
+pub quiet-none : (bs : List ℕ) (from : ℕ) → Quiet bs from from
+quiet-none bs from i l h = absurd (omega arith)
+
+pub quiet-more : (bs : List ℕ) (from i any : ℕ) → (any ≡ 0 → Quiet bs from i) → bitOr any (getD bs i 0) ≡ 0 → Quiet bs from (i + 1)
+quiet-more bs from i any q e j l h =
+    let zero = both-zero any (getD bs i 0) e in
+    ⊎-elim (λ (s : j ≡ i). ap (λ (k : ℕ). getD bs k 0) s ∙ zero .1) (q (zero .0) j l) (last (rw add-one at h))
+
+-- A record whose bytes are 0 spells 0.
+pub quiet-is : (bs : List ℕ) (from to k : ℕ) → Quiet bs from to → from ≤ 4 * k → 4 * k + 4 ≤ to → k < 192 → Spells (image bs) k 0
+quiet-is bs from to k zero l h m =
     record {
-      whole = e;
-      blank = λ n l.
-          let at : (j i : ℕ) → j < 4 → i ≡ 4 * (k + n) + j → getD bs i 0 ≡ 0 = λ j i q s.
-          let there : i ≡ 4 * k + (4 * n + j) = omega arith in
-          ap (λ (x : ℕ). getD bs x 0) there ∙ zero (4 * n + j) (omega arith) in
-          record {
-            number = omega (arith, number-at bs (k + n) (omega arith), at 0 (4 * (k + n)) (omega arith) (omega arith), at 1 (4 * (k + n) + 1) (omega arith) (omega arith));
-            third = omega (arith, third-at bs (k + n) (omega arith), at 2 (4 * (k + n) + 2) (omega arith) (omega arith));
-            fourth = omega (arith, fourth-at bs (k + n) (omega arith), at 3 (4 * (k + n) + 3) (omega arith) (omega arith));
-          };
+      number = omega (arith, number-at bs k m, zero (4 * k) (omega arith) (omega arith), zero (4 * k + 1) (omega arith) (omega arith));
+      third = omega (arith, third-at bs k m, zero (4 * k + 2) (omega arith) (omega arith));
+      fourth = omega (arith, fourth-at bs k m, zero (4 * k + 3) (omega arith) (omega arith));
     }
 
 -- Records that are 0 have no reset order.
-pub quiet-orders : (bs : List ℕ) (t : ℕ) → Quiet (image bs) (128 + t) → (j : ℕ) → t ≤ j → j < t + 16 → state (image bs) .order j ≡ false
+pub quiet-orders : (bs : List ℕ) (t from to : ℕ) → t + 16 ≤ 64 → from ≡ 4 * (128 + t) → to ≡ from + 64 → Quiet bs from to
+    → (j : ℕ) → t ≤ j → j < t + 16 → state (image bs) .order j ≡ false
 unfolding state
-quiet-orders bs t q j l h =
-    let there : 128 + j ≡ 128 + t + (j - t) = omega arith in
-    ap (λ (k : ℕ). eqb (image bs .third k) 1) there ∙ ap (λ (x : ℕ). eqb x 1) (sym (q .blank (j - t) (omega arith) .third))
+quiet-orders bs t from to low e f q j l h =
+    ap (λ (x : ℕ). eqb x 1) (sym (quiet-is bs from to (128 + j) q (omega arith) (omega arith) (omega arith) .third))
 
 -- The numbers read so far: none, and one more.
 pub lists-none : (f : ℕ → ℕ) (xs : List ℕ) → Lists 0 f xs
@@ -85,11 +89,7 @@ lists-more i f xs x l h e s =
       small = below-more _ i (λ j a. rw (other j a) (l .small j a)) (rw here s);
     }
 
--- Of the first t numbers a set has those that pass f, and it has no others.
-pub record Marked (t : ℕ) (f : ℕ → Bool) (s : ℕ) : Type 0 where
-  pub below : (j : ℕ) → j < t → bit s j ≡ f j
-  pub above : (j : ℕ) → t ≤ j → bit s j ≡ false
-
+-- A set made so far: of none, with the next numbers passed over, and with one more.
 pub marked-none : (f : ℕ → Bool) → Marked 0 f 0
 marked-none f = record { below = λ j h. absurd (not-suc-le-zero h); above = λ j h. bit-zero j }
 

@@ -1,11 +1,11 @@
 // A state image read into arrays, and written from them.
 ghost use mathlib.Core.Bool.{true, cond};
 ghost use mathlib.Core.Path.{_≡_};
-ghost use Prim.Native.Nat.{ℕ, _≤_, _<_};
+ghost use Prim.Native.Nat.{ℕ, _+_, _≤_, _<_};
 ghost use lib.ListN.{length, getD};
 ghost use Rattle.meaning.specs.Bytes.{bit};
 ghost use Rattle.meaning.specs.Image.{image, state, image-bytes};
-ghost use Rattle.image.specs.Records.{Spells, Quiet};
+ghost use Rattle.image.specs.Records.{Spells, Quiet, Marked};
 ghost use Rattle.image.specs.Held.{Holds, held, Small, Lists};
 ghost use Rattle.image.specs.Stored.{Room, Stored};
 
@@ -39,24 +39,17 @@ pub fn spelled(bytes: &[u8], k: usize) -> u64
     )
 }
 
-// Are the sixteen records from k on, a multiple of sixteen, seen to be 0?
-pub fn quiet(bytes: &[u8], k: usize) -> bool
-    ensures { λ r. ⌜ (r ≡ true → Quiet (image (now (bytes .entry))) k) ⌝ }
+// Are the bytes from one place up to another seen to be 0?
+pub fn quiet(bytes: &[u8], from: usize, to: usize) -> bool
+    ensures { λ r. ⌜ (r ≡ true → Quiet (now (bytes .entry)) from to) ⌝ }
 {
-    if bytes.len() != 768 {
+    if bytes.len() < to {
         return false;
     }
-    if 192 <= k {
-        return false;
-    }
-    if k % 16 != 0 {
-        return false;
-    }
-    let at = 4 * k;
     let mut any = 0u8;
-    let mut i = 0;
-    while i < 64 {
-        any = any | bytes[at + i];
+    let mut i = from;
+    while i < to {
+        any = any | bytes[i];
         i += 1;
     }
     any == 0
@@ -105,21 +98,36 @@ fn ordered(bytes: &[u8], t: usize) -> bool
     spelled(bytes, 128 + t) / 65536 % 256 == 1
 }
 
-// The set of the transitions with a reset order; sixteen records that are 0 are passed over at once.
+// The set with those of the sixteen transitions from t on that have a reset order; records that are 0 are passed over at once.
+fn orders_on(bytes: &[u8], t: usize, set: u64) -> u64
+    requires { ⌜ t + 16 ≤ 64 ⌝ }
+    requires { ⌜ Marked t (state (image (now bytes)) .order) set ⌝ }
+    ensures { λ r. ⌜ Marked (t + 16) (state (image (now (bytes .entry))) .order) r ⌝ }
+{
+    let from = 4 * (128 + t);
+    if quiet(bytes, from, from + 64) {
+        return set;
+    }
+    let mut all = set;
+    let mut i = 0;
+    while i < 16 {
+        if ordered(bytes, t + i) {
+            all = sets::with(all, t + i);
+        }
+        i += 1;
+    }
+    all
+}
+
+// The set of the transitions with a reset order.
 fn orders(bytes: &[u8]) -> u64
     ensures { λ r. ⌜ ((t : ℕ) → t < 64 → bit r t ≡ state (image (now (bytes .entry))) .order t) ⌝ }
 {
     let mut set = 0u64;
-    let mut t = 0;
-    while t < 64 {
-        if quiet(bytes, 128 + t) {
-            t += 16;
-        } else {
-            if ordered(bytes, t) {
-                set = sets::with(set, t);
-            }
-            t += 1;
-        }
+    let mut b = 0;
+    while b < 4 {
+        set = orders_on(bytes, 16 * b, set);
+        b += 1;
     }
     set
 }

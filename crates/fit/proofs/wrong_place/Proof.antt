@@ -1,17 +1,17 @@
--- `wrong_place` answers its question: 0 never is wrong, what passes two bytes always is, and else the index decides.
-use mathlib.Core.Path.{sym, ap, _∙_}
+-- `wrong_place` answers its question: the last two bytes first, then the number, and else the index.
 use mathlib.Core.Bool.{not}
+use mathlib.Core.Path.{sym, ap, _∙_}
 use borrow.Author.Needs.{needs}
 use Rattle.meaning.specs.Bytes.{bit}
-use Rattle.fit.proofs.Spelled.{place-high, place-low}
+use Rattle.fit.proofs.Spelled.{place-high, place-zero, place-low}
 use Rattle.fit.proofs.wrong_place.Statement.{statement}
 use Rattle.fit.proofs.wrong_place.Tie as tie
 
 returns : tie.Need-returns
-returns c = rw (c .if1 .taken)
+returns c = let a = c .before .args in sym (place-high (a .x) (bit (a .line) 0) (c .if1 .taken))
 
 returns-2 : tie.Need-returns-2
-returns-2 c = let a = c .before .before .args in sym (place-high (a .x) (bit (a .line) 0) (c .if2 .taken))
+returns-2 c = let a = c .before .before .args in sym (place-zero (a .x) (bit (a .line) 0) (c .before .if1 .left) (c .if2 .taken))
 
 has-requires : tie.Need-has-requires
 has-requires c κs = search needs
