@@ -1,4 +1,4 @@
 -- What the proofs of the functions share, and the laws that carry the tests to the meaning.
-pub mod Spelled
+pub mod Blank
 pub mod Firsts
 pub mod Carry

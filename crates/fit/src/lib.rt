@@ -1,64 +1,75 @@
 // Does a state image fit a table (answer 10)? Each record is tested by the index and the intervals.
 ghost use mathlib.Core.Path.{_≡_};
 ghost use mathlib.Core.Bool.{not, _&&_, _||_};
-ghost use Prim.Native.Nat.{_+_, _/_, _%_, _≤_};
+ghost use Prim.Native.Nat.{_+_, _≤_};
 ghost use lib.Dec.{ltb, eqb};
 ghost use Rattle.meaning.specs.Below.{first};
 ghost use Rattle.meaning.specs.Bytes.{bit};
 ghost use Rattle.fit.specs.Fit.{most-by, order-by, wrong-place-by, wrong-transition-by, wrong-by};
 
-// A place's record as one number, and the place's row of the index: is it wrong?
-fn wrong_place(x: u64, line: u64) -> bool
-    ensures { λ r. ⌜ r ≡ (not (eqb (x / 65536 % 256) 0) || not (eqb (x / 16777216) 0) || (not (eqb (x % 65536) 0) && not (bit line 0))) ⌝ }
+// A place's record by its number and last two bytes, and the place's row of the index: is it wrong?
+fn wrong_place(tokens: u32, third: u8, fourth: u8, line: u64) -> bool
+    ensures { λ r. ⌜ r ≡ (not (eqb third 0) || not (eqb fourth 0) || (not (eqb tokens 0) && not (bit line 0))) ⌝ }
 {
-    if x / 65536 != 0 {
+    if third != 0 {
         return true;
     }
-    if x % 65536 == 0 {
+    if fourth != 0 {
+        return true;
+    }
+    if tokens == 0 {
         return false;
     }
     !sets::has(line, 0)
 }
 
 // The highest counter of a transition with this sort, a and b.
-fn most(sort: u8, a: u16, b: u16) -> u64
+fn most(sort: u8, a: u16, b: u16) -> u32
     ensures { λ r. ⌜ r ≡ most-by sort a b ⌝ }
 {
     if sort == 1 {
-        return b as u64 + 1;
+        return b as u32 + 1;
     }
     if sort == 2 {
-        return a as u64;
+        return a as u32;
     }
     0
 }
 
-// A transition's record as one number, and its sort, a and b: is it wrong? Of an untimed one every byte must be 0.
-fn wrong_transition(x: u64, sort: u8, a: u16, b: u16) -> bool
-    ensures { λ r. ⌜ r ≡ (ltb (most-by sort a b) (x % 65536) || ltb (order-by sort) (x / 65536 % 256) || not (eqb (x / 16777216) 0)) ⌝ }
+// A transition's record by its number and last two bytes, and its sort, a and b: is it wrong?
+fn wrong_transition(counter: u32, third: u8, fourth: u8, sort: u8, a: u16, b: u16) -> bool
+    ensures { λ r. ⌜ r ≡ (ltb (most-by sort a b) counter || ltb (order-by sort) third || not (eqb fourth 0)) ⌝ }
 {
-    if sort == 0 {
-        return x != 0;
-    }
-    if 1 < x / 65536 {
+    if fourth != 0 {
         return true;
     }
-    most(sort, a, b) < x % 65536
+    if sort == 0 {
+        if 0 < third {
+            return true;
+        }
+        return 0 < counter;
+    }
+    if 1 < third {
+        return true;
+    }
+    most(sort, a, b) < counter
 }
 
-// Of the sixteen places from p on the first whose record is wrong, counted from p; 16 if there is none, as where all their bytes are 0.
+// Of the sixteen places from p on the first whose record is wrong, counted from p, or 16.
 fn place_on(image: &[u8], rows: &[u64; 768], p: usize) -> usize
     requires { ⌜ p + 16 ≤ 128 ⌝ }
     ensures { λ r. ⌜ r ≡ first 16 (λ k. wrong-place-by (now (image .entry)) (now (rows .entry)) (p + k)) ⌝ }
 {
-    let from = 4 * p;
-    if image::quiet(image, from, from + 64) {
-        return 16;
-    }
     let mut i = 0;
     while i < 16 {
         let k = p + i;
-        if wrong_place(image::spelled(image, k), rows[k]) {
+        let tokens = image::number(image, k);
+        if wrong_place(
+            tokens,
+            image::third(image, k),
+            image::fourth(image, k),
+            rows[k],
+        ) {
             return i;
         }
         i += 1;
@@ -66,34 +77,41 @@ fn place_on(image: &[u8], rows: &[u64; 768], p: usize) -> usize
     16
 }
 
-// The first place whose record is wrong, or 128.
+// The first place whose record is wrong, or 128. Sixteen whose bytes are all 0 are passed over at once.
 fn first_place(image: &[u8], rows: &[u64; 768]) -> usize
     ensures { λ r. ⌜ r ≡ first 128 (wrong-place-by (now (image .entry)) (now (rows .entry))) ⌝ }
 {
-    let mut b = 0;
-    while b < 8 {
-        let i = place_on(image, rows, 16 * b);
-        if i < 16 {
-            return 16 * b + i;
+    let mut p = 0;
+    while p < 128 {
+        let from = 4 * p;
+        if !image::quiet(image, from, from + 64) {
+            let i = place_on(image, rows, p);
+            if i < 16 {
+                return p + i;
+            }
         }
-        b += 1;
+        p += 16;
     }
     128
 }
 
-// Of the sixteen transitions from t on the first whose record is wrong, in the same way.
+// Of the sixteen transitions from t on the first whose record is wrong, counted from t, or 16.
 fn transition_on(image: &[u8], x: timing::Intervals, t: usize) -> usize
     requires { ⌜ t + 16 ≤ 64 ⌝ }
     ensures { λ r. ⌜ r ≡ first 16 (λ k. wrong-transition-by (now (image .entry)) x (t + k)) ⌝ }
 {
-    let from = 4 * (128 + t);
-    if image::quiet(image, from, from + 64) {
-        return 16;
-    }
     let mut i = 0;
     while i < 16 {
         let k = t + i;
-        if wrong_transition(image::spelled(image, 128 + k), x.sorts[k], x.a[k], x.b[k]) {
+        let record = 128 + k;
+        if wrong_transition(
+            image::number(image, record),
+            image::third(image, record),
+            image::fourth(image, record),
+            x.sorts[k],
+            x.a[k],
+            x.b[k],
+        ) {
             return i;
         }
         i += 1;
@@ -101,17 +119,20 @@ fn transition_on(image: &[u8], x: timing::Intervals, t: usize) -> usize
     16
 }
 
-// The first transition whose record is wrong, or 64.
+// The first transition whose record is wrong, or 64, in the same way.
 fn first_transition(image: &[u8], x: timing::Intervals) -> usize
     ensures { λ r. ⌜ r ≡ first 64 (wrong-transition-by (now (image .entry)) x) ⌝ }
 {
-    let mut b = 0;
-    while b < 4 {
-        let i = transition_on(image, x, 16 * b);
-        if i < 16 {
-            return 16 * b + i;
+    let mut t = 0;
+    while t < 64 {
+        let from = 4 * (128 + t);
+        if !image::quiet(image, from, from + 64) {
+            let i = transition_on(image, x, t);
+            if i < 16 {
+                return t + i;
+            }
         }
-        b += 1;
+        t += 16;
     }
     64
 }

@@ -20,7 +20,7 @@ use Rattle.meaning.proofs.Bool.{either}
 use Rattle.meaning.proofs.Bytes.{cut-read}
 use Rattle.sets.proofs.Bits.{bit-zero}
 use Rattle.image.specs.Held.{Lists}
-use Rattle.image.specs.Records.{Spells, Quiet, Marked}
+use Rattle.image.specs.Records.{Blank, Quiet, Marked}
 
 -- The number and the third byte of a record.
 pub number-at : (bs : List ℕ) (k : ℕ) → k < 192 → image bs .number k ≡ getD bs (4 * k) 0 + 256 * getD bs (4 * k + 1) 0
@@ -37,16 +37,6 @@ pub fourth-at : (bs : List ℕ) (k : ℕ) → k < 192 → image bs .fourth k ≡
 unfolding image
 fourth-at bs k h = cut-read 4 192 k 3 bs h (omega arith)
 
--- Four bytes, put together, spell their record.
-pub spells : (bs : List ℕ) (k a b c d : ℕ) → k < 192 → a < 256 → b < 256 → c < 256 → d < 256 → a ≡ getD bs (4 * k) 0
-    → b ≡ getD bs (4 * k + 1) 0 → c ≡ getD bs (4 * k + 2) 0 → d ≡ getD bs (4 * k + 3) 0 → Spells (image bs) k (a + 256 * (b + 256 * (c + 256 * d)))
-spells bs k a b c d h la lb lc ld ea eb ec ed =
-    record {
-      number = omega (arith, number-at bs k h);
-      third = omega (arith, third-at bs k h);
-      fourth = omega (arith, fourth-at bs k h);
-    }
-
 -- Where the bits of two bytes put together are 0, both bytes are.
 pub both-zero : (a b : ℕ) → bitOr a b ≡ 0 → (a ≡ 0) × (b ≡ 0)
 both-zero a b e = (omega (arith, or-add-and a b, and-le-r a b), omega (arith, or-add-and a b, and-le-l a b))
@@ -60,8 +50,8 @@ quiet-more bs from i any q e j l h =
     let zero = both-zero any (getD bs i 0) e in
     ⊎-elim (λ (s : j ≡ i). ap (λ (k : ℕ). getD bs k 0) s ∙ zero .1) (q (zero .0) j l) (last (rw add-one at h))
 
--- A record whose bytes are 0 spells 0.
-pub quiet-is : (bs : List ℕ) (from to k : ℕ) → Quiet bs from to → from ≤ 4 * k → 4 * k + 4 ≤ to → k < 192 → Spells (image bs) k 0
+-- A record whose bytes are 0 is 0.
+pub quiet-is : (bs : List ℕ) (from to k : ℕ) → Quiet bs from to → from ≤ 4 * k → 4 * k + 4 ≤ to → k < 192 → Blank (image bs) k
 quiet-is bs from to k zero l h m =
     record {
       number = omega (arith, number-at bs k m, zero (4 * k) (omega arith) (omega arith), zero (4 * k + 1) (omega arith) (omega arith));
@@ -74,7 +64,7 @@ pub quiet-orders : (bs : List ℕ) (t from to : ℕ) → t + 16 ≤ 64 → from 
     → (j : ℕ) → t ≤ j → j < t + 16 → state (image bs) .order j ≡ false
 unfolding state
 quiet-orders bs t from to low e f q j l h =
-    ap (λ (x : ℕ). eqb x 1) (sym (quiet-is bs from to (128 + j) q (omega arith) (omega arith) (omega arith) .third))
+    ap (λ (x : ℕ). eqb x 1) (quiet-is bs from to (128 + j) q (omega arith) (omega arith) (omega arith) .third)
 
 -- The numbers read so far: none, and one more.
 pub lists-none : (f : ℕ → ℕ) (xs : List ℕ) → Lists 0 f xs

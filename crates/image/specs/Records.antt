@@ -1,17 +1,17 @@
--- A record of an image as one number, bytes that are 0, and a set made so far.
+-- A record of an image that is 0, bytes that are 0, and a set made so far.
 use mathlib.Core.Bool.{Bool, false}
 use mathlib.Core.List.{List}
 use mathlib.Core.Path.{_≡_}
-use Prim.Native.Nat.{ℕ, _/_, _%_, _≤_, _<_}
+use Prim.Native.Nat.{ℕ, _≤_, _<_}
 use lib.ListN.{getD}
 use Rattle.meaning.specs.Bytes.{bit}
 use Rattle.meaning.specs.Image.{Image}
 
--- The four bytes of record k, the lowest first, make up x.
-pub record Spells (img : Image) (k x : ℕ) : Type 0 where
-  pub number : x % 65536 ≡ img .number k
-  pub third : x / 65536 % 256 ≡ img .third k
-  pub fourth : x / 16777216 ≡ img .fourth k
+-- Record k is 0.
+pub record Blank (img : Image) (k : ℕ) : Type 0 where
+  pub number : img .number k ≡ 0
+  pub third : img .third k ≡ 0
+  pub fourth : img .fourth k ≡ 0
 
 -- The bytes from one place up to another are 0.
 abbrev pub Quiet : List ℕ → ℕ → ℕ → Type 0

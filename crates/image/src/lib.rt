@@ -1,11 +1,11 @@
 // A state image read into arrays, and written from them.
 ghost use mathlib.Core.Bool.{true, cond};
 ghost use mathlib.Core.Path.{_≡_};
-ghost use Prim.Native.Nat.{ℕ, _+_, _≤_, _<_};
+ghost use Prim.Native.Nat.{ℕ, _+_, _*_, _≤_, _<_};
 ghost use lib.ListN.{length, getD};
 ghost use Rattle.meaning.specs.Bytes.{bit};
 ghost use Rattle.meaning.specs.Image.{image, state, image-bytes};
-ghost use Rattle.image.specs.Records.{Spells, Quiet, Marked};
+ghost use Rattle.image.specs.Records.{Quiet, Marked};
 ghost use Rattle.image.specs.Held.{Holds, held, Small, Lists};
 ghost use Rattle.image.specs.Stored.{Room, Stored};
 
@@ -23,20 +23,17 @@ fn byte(bytes: &[u8], i: usize) -> u8
     if i < bytes.len() { bytes[i] } else { 0 }
 }
 
-// The four bytes of record k as one number, the lowest first.
-pub fn spelled(bytes: &[u8], k: usize) -> u64
-    ensures { λ r. ⌜ (k < 192 → Spells (image (now (bytes .entry))) k r) ⌝ }
+// Byte 2 and byte 3 of record k.
+pub fn third(bytes: &[u8], k: usize) -> u8
+    ensures { λ r. ⌜ (k < 192 → r ≡ image (now (bytes .entry)) .third k) ⌝ }
 {
-    if 192 <= k {
-        return 0;
-    }
-    let at = 4 * k;
-    words::four(
-        byte(bytes, at),
-        byte(bytes, at + 1),
-        byte(bytes, at + 2),
-        byte(bytes, at + 3),
-    )
+    if k < 192 { byte(bytes, 4 * k + 2) } else { 0 }
+}
+
+pub fn fourth(bytes: &[u8], k: usize) -> u8
+    ensures { λ r. ⌜ (k < 192 → r ≡ image (now (bytes .entry)) .fourth k) ⌝ }
+{
+    if k < 192 { byte(bytes, 4 * k + 3) } else { 0 }
 }
 
 // Are the bytes from one place up to another seen to be 0?
@@ -55,13 +52,24 @@ pub fn quiet(bytes: &[u8], from: usize, to: usize) -> bool
     any == 0
 }
 
-// The two-byte number with which record k begins.
-fn number(bytes: &[u8], k: usize) -> u32
-    requires { ⌜ k < 192 ⌝ }
-    ensures { λ r. ⌜ r ≡ image (now (bytes .entry)) .number k ⌝ }
+// Two bytes as a number, the lower first.
+fn pair(low: u8, high: u8) -> u32
+    ensures { λ r. ⌜ r ≡ low + 256 * high ⌝ }
     ensures { λ r. ⌜ r ≤ 65535 ⌝ }
 {
-    (spelled(bytes, k) % 65536) as u32
+    low as u32 + 256 * (high as u32)
+}
+
+// The two-byte number with which record k begins.
+pub fn number(bytes: &[u8], k: usize) -> u32
+    ensures { λ r. ⌜ (k < 192 → r ≡ image (now (bytes .entry)) .number k) ⌝ }
+    ensures { λ r. ⌜ r ≤ 65535 ⌝ }
+{
+    if 192 <= k {
+        return 0;
+    }
+    let at = 4 * k;
+    pair(byte(bytes, at), byte(bytes, at + 1))
 }
 
 // The tokens of each place.
@@ -95,7 +103,7 @@ fn ordered(bytes: &[u8], t: usize) -> bool
     requires { ⌜ t < 64 ⌝ }
     ensures { λ r. ⌜ r ≡ state (image (now (bytes .entry))) .order t ⌝ }
 {
-    spelled(bytes, 128 + t) / 65536 % 256 == 1
+    third(bytes, 128 + t) == 1
 }
 
 // The set with those of the sixteen transitions from t on that have a reset order; records that are 0 are passed over at once.

@@ -1,11 +1,11 @@
 -- The words of a list of bytes by index: word i is spelled by the eight bytes from 8i on.
 use mathlib.Core.List.{List, [], _∷_}
-use mathlib.Core.Path.{_≡_, refl, sym, ap, _∙_}
+use mathlib.Core.Path.{_≡_, refl, ap, _∙_}
 use Prim.Native.Nat.{ℕ, zero, suc, _+_, _*_, _≤_, _<_}
 use native.Mathlib.Nat.{not-suc-le-zero, le-of-suc-le-suc}
 use native.Mathlib.Omega.{arith}
 use lib.ListN.{length, take, drop, getD}
-use lib.Seq.{drop-drop, drop-cons, getD-take, getD-drop}
+use lib.Seq.{drop-drop, drop-cons}
 use Rattle.meaning.specs.Bytes.{number}
 use Rattle.meaning.specs.Calls.{words-of}
 
@@ -50,13 +50,3 @@ halves bs at low high h l u =
       spell 1 bs (at + 6) (at + 7) (omega arith) (omega arith),
       spell 0 bs (at + 7) (at + 8) (omega arith) (omega arith),
     )
-
--- Bytes that spell 0 are all 0.
-all-zero : (bs : List ℕ) (j : ℕ) → number bs ≡ 0 → getD bs j 0 ≡ 0
-unfolding number
-all-zero [] j e = refl
-all-zero (b ∷ bs) zero e = omega arith
-all-zero (b ∷ bs) (suc j) e = all-zero bs j (omega arith)
-
-pub zero-word : (bs : List ℕ) (i j : ℕ) → j < 8 → number (take 8 (drop (8 * i) bs)) ≡ 0 → getD bs (8 * i + j) 0 ≡ 0
-zero-word bs i j h e = sym (getD-take 8 (drop (8 * i) bs) j 0 h ∙ getD-drop (8 * i) bs j 0) ∙ all-zero (take 8 (drop (8 * i) bs)) j e

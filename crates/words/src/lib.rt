@@ -5,7 +5,7 @@ ghost use lib.ListN.{length, take, drop};
 ghost use Rattle.meaning.specs.Bytes.{number};
 
 // Four bytes as a number, the lowest first.
-pub fn four(a: u8, b: u8, c: u8, d: u8) -> u64
+fn four(a: u8, b: u8, c: u8, d: u8) -> u64
     ensures { λ r. ⌜ r ≡ a + 256 * (b + 256 * (c + 256 * d)) ⌝ }
     ensures { λ r. ⌜ r ≤ 4294967295 ⌝ }
 {

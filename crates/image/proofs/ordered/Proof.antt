@@ -8,15 +8,15 @@ use Rattle.meaning.specs.Image.{state}
 use Rattle.image.proofs.ordered.Statement.{statement}
 use Rattle.image.proofs.ordered.Tie as tie
 
-add-spelled : tie.Need-add-spelled
-add-spelled c = search needs
+add-third : tie.Need-add-third
+add-third c = search needs
 
-spelled-requires : tie.Need-spelled-requires
-spelled-requires c κs = search needs
+third-requires : tie.Need-third-requires
+third-requires c κs = search needs
 
 returns : tie.Need-returns
 unfolding state
-returns c = ap (λ (x : ℕ). eqb x 1) (c .spelled .ensures (omega (arith, c .before .before .pre)) .third)
+returns c = ap (λ (x : ℕ). eqb x 1) (c .third .ensures (omega (arith, c .before .before .pre)))
 
 pub ordered-spec : {M : Type 1} → statement M
-ordered-spec = tie.close (tie.spec add-spelled spelled-requires returns)
+ordered-spec = tie.close (tie.spec add-third third-requires returns)
