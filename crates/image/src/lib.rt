@@ -23,17 +23,30 @@ fn byte(bytes: &[u8], i: usize) -> u8
     if i < bytes.len() { bytes[i] } else { 0 }
 }
 
+// Byte j of record k. Where the image is whole nothing more is tested.
+fn cell(bytes: &[u8], k: usize, j: usize) -> u8
+    requires { ⌜ k < 192 ⌝ }
+    requires { ⌜ j < 4 ⌝ }
+    ensures { λ r. ⌜ r ≡ getD (now (bytes .entry)) (4 * k + j) 0 ⌝ }
+{
+    let i = 4 * k + j;
+    if bytes.len() < 768 {
+        return byte(bytes, i);
+    }
+    bytes[i]
+}
+
 // Byte 2 and byte 3 of record k.
 pub fn third(bytes: &[u8], k: usize) -> u8
     ensures { λ r. ⌜ (k < 192 → r ≡ image (now (bytes .entry)) .third k) ⌝ }
 {
-    if k < 192 { byte(bytes, 4 * k + 2) } else { 0 }
+    if k < 192 { cell(bytes, k, 2) } else { 0 }
 }
 
 pub fn fourth(bytes: &[u8], k: usize) -> u8
     ensures { λ r. ⌜ (k < 192 → r ≡ image (now (bytes .entry)) .fourth k) ⌝ }
 {
-    if k < 192 { byte(bytes, 4 * k + 3) } else { 0 }
+    if k < 192 { cell(bytes, k, 3) } else { 0 }
 }
 
 // Are the bytes from one place up to another seen to be 0?
@@ -68,8 +81,7 @@ pub fn number(bytes: &[u8], k: usize) -> u32
     if 192 <= k {
         return 0;
     }
-    let at = 4 * k;
-    pair(byte(bytes, at), byte(bytes, at + 1))
+    pair(cell(bytes, k, 0), cell(bytes, k, 1))
 }
 
 // The tokens of each place.

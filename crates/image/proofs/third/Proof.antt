@@ -5,20 +5,14 @@ use Rattle.image.proofs.Read.{third-at}
 use Rattle.image.proofs.third.Statement.{statement}
 use Rattle.image.proofs.third.Tie as tie
 
-mul-byte : tie.Need-mul-byte
-mul-byte c = search needs
-
-add-byte : tie.Need-add-byte
-add-byte c = search needs
-
-byte-requires : tie.Need-byte-requires
-byte-requires c κs = search needs
+cell-requires : tie.Need-cell-requires
+cell-requires c κs = search needs
 
 returns : tie.Need-returns
-returns c = let a = c .before .before .before .args in λ h. c .byte .ensures ∙ sym (third-at (a .bytes .now) (a .k) h)
+returns c = let a = c .before .before .before .args in λ h. c .cell .ensures ∙ sym (third-at (a .bytes .now) (a .k) h)
 
 returns-2 : tie.Need-returns-2
 returns-2 c = search needs
 
 pub third-spec : {M : Type 1} → statement M
-third-spec = tie.close (tie.spec mul-byte add-byte byte-requires returns returns-2)
+third-spec = tie.close (tie.spec cell-requires returns returns-2)
