@@ -11,6 +11,7 @@ use borrow.Author.Tests.{lt-ltb, le-ltb, ltb-true, ltb-false}
 use Rattle.meaning.specs.Below.{first}
 use Rattle.meaning.proofs.Bool.{either}
 use Rattle.meaning.proofs.Below.{first-le, first-passes, first-before, first-is, first-none, first-same}
+use Rattle.table.proofs.Firsts.{first-after}
 use Rattle.timing.specs.declared.Intervals.{Intervals}
 use Rattle.fit.specs.Fit.{wrong-place-by, wrong-transition-by, wrong-by}
 
@@ -20,21 +21,19 @@ module _ (m n : ℕ) (p : ℕ → Bool) where
   first-early l = sym (first-is (m + n) p (first m p) (omega arith) (first-passes m p l) (first-before m p))
 
   first-late : m ≤ first m p → m + first n (λ k. p (m + k)) ≡ first (m + n) p
-  first-late l =
-      ⊎-elim (λ (e : first n behind ≡ n). sym (first-none (m + n) p (λ j h. before j (omega arith)) ∙ omega arith))
-      (λ (h : first n behind < n). sym (first-is (m + n) p (m + first n behind) (omega arith) (first-passes n behind h) before))
-      (eq-or-lt-of-le (first-le n behind))
-    where
-      behind : ℕ → Bool
-      behind k = p (m + k)
+  first-late l = first-after m n p (λ k h. first-before m p k (omega arith))
 
-      before : (j : ℕ) → j < m + first n behind → p j ≡ false
-      before j h =
-          ⊎-elim (λ (e : ltb j m ≡ true). first-before m p j (omega (arith, ltb-true j m e)))
-          (λ (e : ltb j m ≡ false).
-          let there : j ≡ m + (j - m) = omega (arith, ltb-false j m e) in
-          ap p there ∙ first-before n behind (j - m) (omega (arith, ltb-false j m e)))
-          (either (ltb j m))
+-- Candidates in turns of n: those before m were seen not to pass, and i is the first of the next n.
+module _ (m n i : ℕ) (p : ℕ → Bool) (before : (k : ℕ) → k < m → p k ≡ false) (e : i ≡ first n (λ k. p (m + k))) where
+  so-far : m + i ≡ first (m + n) p
+  so-far = ap (λ (x : ℕ). m + x) e ∙ first-after m n p before
+
+  pub found-on : (all : ℕ) → m + n ≤ all → i < n → m + i ≡ first all p
+  found-on all l h =
+      so-far ∙ sym (first-is all p (first (m + n) p) (omega (arith, so-far)) (first-passes (m + n) p (omega (arith, so-far))) (first-before (m + n) p))
+
+  pub none-on : n ≤ i → (k : ℕ) → k < m + n → p k ≡ false
+  none-on h k l = first-before (m + n) p k (omega (arith, so-far))
 
 module _ (image rows : List ℕ) (x : Intervals) where
   -- A place's test is that of its record, and a transition's that of the record 128 behind.

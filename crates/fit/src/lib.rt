@@ -1,29 +1,14 @@
 // Does a state image fit a table (answer 10)? Each record is tested by the index and the intervals.
 ghost use mathlib.Core.Path.{_≡_};
 ghost use mathlib.Core.Bool.{not, _&&_, _||_};
-ghost use Prim.Native.Nat.{_+_, _*_};
+ghost use Prim.Native.Nat.{_+_, _≤_};
 ghost use lib.Dec.{ltb, eqb};
-ghost use lib.ListN.{getD};
 ghost use Rattle.meaning.specs.Below.{first};
 ghost use Rattle.meaning.specs.Bytes.{bit};
 ghost use Rattle.fit.specs.Fit.{most-by, order-by, wrong-place-by, wrong-transition-by, wrong-by};
 
-// Byte i of the image, and 0 past its end.
-fn byte(image: &[u8], i: usize) -> u8
-    ensures { λ r. ⌜ r ≡ getD (now (image .entry)) i 0 ⌝ }
-{
-    if i < image.len() { image[i] } else { 0 }
-}
-
-// Two bytes as a number, the lower first.
-fn number(low: u8, high: u8) -> usize
-    ensures { λ r. ⌜ r ≡ low + 256 * high ⌝ }
-{
-    low as usize + 256 * (high as usize)
-}
-
 // A place's record by its number and last two bytes, and the place's row of the index: is it wrong?
-fn wrong_place(tokens: usize, third: u8, fourth: u8, line: u64) -> bool
+fn wrong_place(tokens: u32, third: u8, fourth: u8, line: u64) -> bool
     ensures { λ r. ⌜ r ≡ (not (eqb third 0) || not (eqb fourth 0) || (not (eqb tokens 0) && not (bit line 0))) ⌝ }
 {
     if third != 0 {
@@ -39,73 +24,115 @@ fn wrong_place(tokens: usize, third: u8, fourth: u8, line: u64) -> bool
 }
 
 // The highest counter of a transition with this sort, a and b.
-fn most(sort: u8, a: u16, b: u16) -> usize
+fn most(sort: u8, a: u16, b: u16) -> u32
     ensures { λ r. ⌜ r ≡ most-by sort a b ⌝ }
 {
     if sort == 1 {
-        return b as usize + 1;
+        return b as u32 + 1;
     }
     if sort == 2 {
-        return a as usize;
+        return a as u32;
     }
     0
 }
 
-// The highest reset order of a transition with this sort.
-fn order(sort: u8) -> u8
-    ensures { λ r. ⌜ r ≡ order-by sort ⌝ }
+// A transition's record by its number and last two bytes, and its sort, a and b: is it wrong?
+fn wrong_transition(counter: u32, third: u8, fourth: u8, sort: u8, a: u16, b: u16) -> bool
+    ensures { λ r. ⌜ r ≡ (ltb (most-by sort a b) counter || ltb (order-by sort) third || not (eqb fourth 0)) ⌝ }
 {
-    if sort == 0 { 0 } else { 1 }
-}
-
-// A transition's record by its number and last two bytes, and the highest counter and reset order that fit: is it wrong?
-fn wrong_transition(counter: usize, third: u8, fourth: u8, highest: usize, last: u8) -> bool
-    ensures { λ r. ⌜ r ≡ (ltb highest counter || ltb last third || not (eqb fourth 0)) ⌝ }
-{
-    if highest < counter {
+    if fourth != 0 {
         return true;
     }
-    if last < third {
+    if sort == 0 {
+        if 0 < third {
+            return true;
+        }
+        return 0 < counter;
+    }
+    if 1 < third {
         return true;
     }
-    fourth != 0
+    most(sort, a, b) < counter
 }
 
-// The first place whose record is wrong, or 128.
+// Of the sixteen places from p on the first whose record is wrong, counted from p, or 16.
+fn place_on(image: &[u8], rows: &[u64; 768], p: usize) -> usize
+    requires { ⌜ p + 16 ≤ 128 ⌝ }
+    ensures { λ r. ⌜ r ≡ first 16 (λ k. wrong-place-by (now (image .entry)) (now (rows .entry)) (p + k)) ⌝ }
+{
+    let mut i = 0;
+    while i < 16 {
+        let k = p + i;
+        let tokens = image::number(image, k);
+        if wrong_place(
+            tokens,
+            image::third(image, k),
+            image::fourth(image, k),
+            rows[k],
+        ) {
+            return i;
+        }
+        i += 1;
+    }
+    16
+}
+
+// The first place whose record is wrong, or 128. Sixteen whose bytes are all 0 are passed over at once.
 fn first_place(image: &[u8], rows: &[u64; 768]) -> usize
     ensures { λ r. ⌜ r ≡ first 128 (wrong-place-by (now (image .entry)) (now (rows .entry))) ⌝ }
 {
     let mut p = 0;
     while p < 128 {
-        let at = 4 * p;
-        let tokens = number(byte(image, at), byte(image, at + 1));
-        if wrong_place(tokens, byte(image, at + 2), byte(image, at + 3), rows[p]) {
-            return p;
+        let from = 4 * p;
+        if !image::quiet(image, from, from + 64) {
+            let i = place_on(image, rows, p);
+            if i < 16 {
+                return p + i;
+            }
         }
-        p += 1;
+        p += 16;
     }
     128
 }
 
-// The first transition whose record is wrong, or 64.
+// Of the sixteen transitions from t on the first whose record is wrong, counted from t, or 16.
+fn transition_on(image: &[u8], x: timing::Intervals, t: usize) -> usize
+    requires { ⌜ t + 16 ≤ 64 ⌝ }
+    ensures { λ r. ⌜ r ≡ first 16 (λ k. wrong-transition-by (now (image .entry)) x (t + k)) ⌝ }
+{
+    let mut i = 0;
+    while i < 16 {
+        let k = t + i;
+        let record = 128 + k;
+        if wrong_transition(
+            image::number(image, record),
+            image::third(image, record),
+            image::fourth(image, record),
+            x.sorts[k],
+            x.a[k],
+            x.b[k],
+        ) {
+            return i;
+        }
+        i += 1;
+    }
+    16
+}
+
+// The first transition whose record is wrong, or 64, in the same way.
 fn first_transition(image: &[u8], x: timing::Intervals) -> usize
     ensures { λ r. ⌜ r ≡ first 64 (wrong-transition-by (now (image .entry)) x) ⌝ }
 {
     let mut t = 0;
     while t < 64 {
-        let at = 4 * (128 + t);
-        let counter = number(byte(image, at), byte(image, at + 1));
-        let highest = most(x.sorts[t], x.a[t], x.b[t]);
-        if wrong_transition(
-            counter,
-            byte(image, at + 2),
-            byte(image, at + 3),
-            highest,
-            order(x.sorts[t]),
-        ) {
-            return t;
+        let from = 4 * (128 + t);
+        if !image::quiet(image, from, from + 64) {
+            let i = transition_on(image, x, t);
+            if i < 16 {
+                return t + i;
+            }
         }
-        t += 1;
+        t += 16;
     }
     64
 }

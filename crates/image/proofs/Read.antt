@@ -1,20 +1,26 @@
 -- Reading an image: a record's columns are four bytes, wherever the bytes end, and what is read so far stands in the arrays.
 use mathlib.Core.Bool.{Bool, true, false, _&&_, _||_}
 use mathlib.Core.List.{List}
+use mathlib.Core.Logic.{⊎-elim}
 use mathlib.Core.Path.{_≡_, refl, sym, ap, ap₂, _∙_}
-use Prim.Native.Nat.{ℕ, _+_, _*_, _≤_, _<_}
+use Prim.Native.Nat.{ℕ, _+_, _*_, _-_, _/_, _%_, _≤_, _<_}
 use native.Mathlib.Nat.{not-suc-le-zero, add-zero}
+use native.Mathlib.Numerals.{add-one}
 use native.Mathlib.Omega.{arith}
+use lib.Bits.{bitOr, or-add-and, and-le-l, and-le-r}
 use lib.Dec.{eqb, ltb}
 use lib.ListN.{length, getD, set}
 use lib.Seq.{getD-set-same, getD-set-other}
 use borrow.Author.Count.{below-more}
-use borrow.Author.Tests.{eq-eqb, ne-eqb, lt-ltb}
+use borrow.Author.Tests.{eq-eqb, ne-eqb, lt-ltb, ltb-true, ltb-false}
 use Rattle.meaning.specs.Bytes.{bit}
 use Rattle.meaning.specs.Image.{image, state}
+use Rattle.meaning.proofs.Below.{last}
+use Rattle.meaning.proofs.Bool.{either}
 use Rattle.meaning.proofs.Bytes.{cut-read}
 use Rattle.sets.proofs.Bits.{bit-zero}
 use Rattle.image.specs.Held.{Lists}
+use Rattle.image.specs.Records.{Blank, Quiet, Marked}
 
 -- The number and the third byte of a record.
 pub number-at : (bs : List ℕ) (k : ℕ) → k < 192 → image bs .number k ≡ getD bs (4 * k) 0 + 256 * getD bs (4 * k + 1) 0
@@ -27,10 +33,38 @@ pub third-at : (bs : List ℕ) (k : ℕ) → k < 192 → image bs .third k ≡ g
 unfolding image
 third-at bs k h = cut-read 4 192 k 2 bs h (omega arith)
 
--- A transition has a reset order exactly if its third byte is 1.
-pub order-at : (bs : List ℕ) (t : ℕ) → t < 64 → state (image bs) .order t ≡ eqb (getD bs (4 * (128 + t) + 2) 0) 1
+pub fourth-at : (bs : List ℕ) (k : ℕ) → k < 192 → image bs .fourth k ≡ getD bs (4 * k + 3) 0
+unfolding image
+fourth-at bs k h = cut-read 4 192 k 3 bs h (omega arith)
+
+-- Where the bits of two bytes put together are 0, both bytes are.
+pub both-zero : (a b : ℕ) → bitOr a b ≡ 0 → (a ≡ 0) × (b ≡ 0)
+both-zero a b e = (omega (arith, or-add-and a b, and-le-r a b), omega (arith, or-add-and a b, and-le-l a b))
+
+-- Bytes of 0: none, and one more where its bits add nothing.
+pub quiet-none : (bs : List ℕ) (from : ℕ) → Quiet bs from from
+quiet-none bs from i l h = absurd (omega arith)
+
+pub quiet-more : (bs : List ℕ) (from i any : ℕ) → (any ≡ 0 → Quiet bs from i) → bitOr any (getD bs i 0) ≡ 0 → Quiet bs from (i + 1)
+quiet-more bs from i any q e j l h =
+    let zero = both-zero any (getD bs i 0) e in
+    ⊎-elim (λ (s : j ≡ i). ap (λ (k : ℕ). getD bs k 0) s ∙ zero .1) (q (zero .0) j l) (last (rw add-one at h))
+
+-- A record whose bytes are 0 is 0.
+pub quiet-is : (bs : List ℕ) (from to k : ℕ) → Quiet bs from to → from ≤ 4 * k → 4 * k + 4 ≤ to → k < 192 → Blank (image bs) k
+quiet-is bs from to k zero l h m =
+    record {
+      number = omega (arith, number-at bs k m, zero (4 * k) (omega arith) (omega arith), zero (4 * k + 1) (omega arith) (omega arith));
+      third = omega (arith, third-at bs k m, zero (4 * k + 2) (omega arith) (omega arith));
+      fourth = omega (arith, fourth-at bs k m, zero (4 * k + 3) (omega arith) (omega arith));
+    }
+
+-- Records that are 0 have no reset order.
+pub quiet-orders : (bs : List ℕ) (t from to : ℕ) → t + 16 ≤ 64 → from ≡ 4 * (128 + t) → to ≡ from + 64 → Quiet bs from to
+    → (j : ℕ) → t ≤ j → j < t + 16 → state (image bs) .order j ≡ false
 unfolding state
-order-at bs t h = ap (λ (x : ℕ). eqb x 1) (third-at bs (128 + t) (omega arith))
+quiet-orders bs t from to low e f q j l h =
+    ap (λ (x : ℕ). eqb x 1) (quiet-is bs from to (128 + j) q (omega arith) (omega arith) (omega arith) .third)
 
 -- The numbers read so far: none, and one more.
 pub lists-none : (f : ℕ → ℕ) (xs : List ℕ) → Lists 0 f xs
@@ -45,17 +79,19 @@ lists-more i f xs x l h e s =
       small = below-more _ i (λ j a. rw (other j a) (l .small j a)) (rw here s);
     }
 
--- Of the first t numbers a set has those that pass f, and it has no others.
-pub record Marked (t : ℕ) (f : ℕ → Bool) (s : ℕ) : Type 0 where
-  pub below : (j : ℕ) → j < t → bit s j ≡ f j
-  pub above : (j : ℕ) → t ≤ j → bit s j ≡ false
-
+-- A set made so far: of none, with the next numbers passed over, and with one more.
 pub marked-none : (f : ℕ → Bool) → Marked 0 f 0
 marked-none f = record { below = λ j h. absurd (not-suc-le-zero h); above = λ j h. bit-zero j }
 
-pub marked-same : (t : ℕ) (f : ℕ → Bool) (s : ℕ) → Marked t f s → f t ≡ false → Marked (t + 1) f s
-marked-same t f s m e =
-    record { below = below-more _ t (m .below) (m .above t (omega arith) ∙ sym e); above = λ j h. m .above j (omega arith) }
+pub marked-same : (t n : ℕ) (f : ℕ → Bool) (s : ℕ) → Marked t f s → ((j : ℕ) → t ≤ j → j < t + n → f j ≡ false) → Marked (t + n) f s
+marked-same t n f s m off =
+    record {
+      below = λ j h.
+          ⊎-elim (λ (e : ltb j t ≡ true). m .below j (ltb-true j t e))
+          (λ (e : ltb j t ≡ false). m .above j (ltb-false j t e) ∙ sym (off j (ltb-false j t e) h))
+          (either (ltb j t));
+      above = λ j h. m .above j (omega arith);
+    }
 
 pub marked-more : (t : ℕ) (f : ℕ → Bool) (s r : ℕ) → Marked t f s → f t ≡ true → t < 64
     → ((j : ℕ) → bit r j ≡ (bit s j || (eqb t j && ltb t 64))) → Marked (t + 1) f r

@@ -1,3 +1,4 @@
--- What the arrays of a state hold, and what is stored of them.
+-- What the arrays of a state hold, what a record spells, and what is stored.
 pub mod Held
+pub mod Records
 pub mod Stored

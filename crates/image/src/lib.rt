@@ -1,10 +1,11 @@
 // A state image read into arrays, and written from them.
-ghost use mathlib.Core.Bool.{cond};
+ghost use mathlib.Core.Bool.{true, cond};
 ghost use mathlib.Core.Path.{_≡_};
-ghost use Prim.Native.Nat.{ℕ, _≤_, _<_};
+ghost use Prim.Native.Nat.{ℕ, _+_, _*_, _≤_, _<_};
 ghost use lib.ListN.{length, getD};
 ghost use Rattle.meaning.specs.Bytes.{bit};
 ghost use Rattle.meaning.specs.Image.{image, state, image-bytes};
+ghost use Rattle.image.specs.Records.{Quiet, Marked};
 ghost use Rattle.image.specs.Held.{Holds, held, Small, Lists};
 ghost use Rattle.image.specs.Stored.{Room, Stored};
 
@@ -16,22 +17,71 @@ pub struct Held {
 }
 
 // Byte i, and 0 past the last.
-fn byte(bytes: &[u8], i: usize) -> u32
+fn byte(bytes: &[u8], i: usize) -> u8
     ensures { λ r. ⌜ r ≡ getD (now (bytes .entry)) i 0 ⌝ }
-    ensures { λ r. ⌜ r ≤ 255 ⌝ }
 {
-    if i < bytes.len() { bytes[i] as u32 } else { 0 }
+    if i < bytes.len() { bytes[i] } else { 0 }
+}
+
+// Byte j of record k. Where the image is whole nothing more is tested.
+fn cell(bytes: &[u8], k: usize, j: usize) -> u8
+    requires { ⌜ k < 192 ⌝ }
+    requires { ⌜ j < 4 ⌝ }
+    ensures { λ r. ⌜ r ≡ getD (now (bytes .entry)) (4 * k + j) 0 ⌝ }
+{
+    let i = 4 * k + j;
+    if bytes.len() < 768 {
+        return byte(bytes, i);
+    }
+    bytes[i]
+}
+
+// Byte 2 and byte 3 of record k.
+pub fn third(bytes: &[u8], k: usize) -> u8
+    ensures { λ r. ⌜ (k < 192 → r ≡ image (now (bytes .entry)) .third k) ⌝ }
+{
+    if k < 192 { cell(bytes, k, 2) } else { 0 }
+}
+
+pub fn fourth(bytes: &[u8], k: usize) -> u8
+    ensures { λ r. ⌜ (k < 192 → r ≡ image (now (bytes .entry)) .fourth k) ⌝ }
+{
+    if k < 192 { cell(bytes, k, 3) } else { 0 }
+}
+
+// Are the bytes from one place up to another seen to be 0?
+pub fn quiet(bytes: &[u8], from: usize, to: usize) -> bool
+    ensures { λ r. ⌜ (r ≡ true → Quiet (now (bytes .entry)) from to) ⌝ }
+{
+    if bytes.len() < to {
+        return false;
+    }
+    let mut any = 0u8;
+    let mut i = from;
+    while i < to {
+        any = any | bytes[i];
+        i += 1;
+    }
+    any == 0
+}
+
+// Two bytes as a number, the lower first.
+fn pair(low: u8, high: u8) -> u32
+    ensures { λ r. ⌜ r ≡ low + 256 * high ⌝ }
+    ensures { λ r. ⌜ r ≤ 65535 ⌝ }
+{
+    low as u32 + 256 * (high as u32)
 }
 
 // The two-byte number with which record k begins.
-fn number(bytes: &[u8], k: usize) -> u32
-    requires { ⌜ k < 192 ⌝ }
-    ensures { λ r. ⌜ r ≡ image (now (bytes .entry)) .number k ⌝ }
+pub fn number(bytes: &[u8], k: usize) -> u32
+    ensures { λ r. ⌜ (k < 192 → r ≡ image (now (bytes .entry)) .number k) ⌝ }
     ensures { λ r. ⌜ r ≤ 65535 ⌝ }
 {
-    let low = byte(bytes, 4 * k);
-    let high = byte(bytes, 4 * k + 1);
-    low + 256 * high
+    if 192 <= k {
+        return 0;
+    }
+    pair(cell(bytes, k, 0), cell(bytes, k, 1))
 }
 
 // The tokens of each place.
@@ -60,17 +110,44 @@ fn counters(bytes: &[u8]) -> [u32; 64]
     xs
 }
 
-// The set of the transitions with a reset order: those whose third byte is 1.
+// Has transition t a reset order? Its third byte is 1.
+fn ordered(bytes: &[u8], t: usize) -> bool
+    requires { ⌜ t < 64 ⌝ }
+    ensures { λ r. ⌜ r ≡ state (image (now (bytes .entry))) .order t ⌝ }
+{
+    third(bytes, 128 + t) == 1
+}
+
+// The set with those of the sixteen transitions from t on that have a reset order; records that are 0 are passed over at once.
+fn orders_on(bytes: &[u8], t: usize, set: u64) -> u64
+    requires { ⌜ t + 16 ≤ 64 ⌝ }
+    requires { ⌜ Marked t (state (image (now bytes)) .order) set ⌝ }
+    ensures { λ r. ⌜ Marked (t + 16) (state (image (now (bytes .entry))) .order) r ⌝ }
+{
+    let from = 4 * (128 + t);
+    if quiet(bytes, from, from + 64) {
+        return set;
+    }
+    let mut all = set;
+    let mut i = 0;
+    while i < 16 {
+        if ordered(bytes, t + i) {
+            all = sets::with(all, t + i);
+        }
+        i += 1;
+    }
+    all
+}
+
+// The set of the transitions with a reset order.
 fn orders(bytes: &[u8]) -> u64
     ensures { λ r. ⌜ ((t : ℕ) → t < 64 → bit r t ≡ state (image (now (bytes .entry))) .order t) ⌝ }
 {
     let mut set = 0u64;
-    let mut t = 0;
-    while t < 64 {
-        if byte(bytes, 4 * (128 + t) + 2) == 1 {
-            set = sets::with(set, t);
-        }
-        t += 1;
+    let mut b = 0;
+    while b < 4 {
+        set = orders_on(bytes, 16 * b, set);
+        b += 1;
     }
     set
 }

@@ -113,7 +113,7 @@ lone-transition rows t all e =
     rw (le-ltb (128 + t) 128 (omega arith), less, e t)
 
 -- The first past candidates that do not pass.
-first-after : (m n : ℕ) (p : ℕ → Bool) → ((k : ℕ) → k < m → p k ≡ false) → m + first n (λ k. p (m + k)) ≡ first (m + n) p
+pub first-after : (m n : ℕ) (p : ℕ → Bool) → ((k : ℕ) → k < m → p k ≡ false) → m + first n (λ k. p (m + k)) ≡ first (m + n) p
 first-after m n p f =
     let q : ℕ → Bool = λ k. p (m + k) in
     let before : (j : ℕ) → j < m + first n q → p j ≡ false =

@@ -1,6 +1,5 @@
 -- `byte` reads its byte: within the bytes the element, and past the last what a list gives there.
-use mathlib.Core.Path.{refl, sym}
-use native.Mathlib.Omega.{arith}
+use mathlib.Core.Path.{sym}
 use lib.ListN.{List·getD-eq-default}
 use borrow.Author.Needs.{needs}
 use Rattle.image.proofs.byte.Statement.{statement}
@@ -9,14 +8,11 @@ use Rattle.image.proofs.byte.Tie as tie
 shared-slice-read-result : tie.Need-shared-slice-read-result
 shared-slice-read-result c = search needs
 
-cast-result : tie.Need-cast-result
-cast-result c = omega (arith, c .shared-slice-known .given (c .before .before .args .i))
-
 returns : tie.Need-returns
-returns c = (refl, omega (arith, c .shared-slice-known .given (c .before .before .args .i)))
+returns c = search needs
 
 returns-2 : tie.Need-returns-2
-returns-2 c = (sym (List·getD-eq-default (c .before .args .bytes .now) 0 (c .if1 .left)), omega arith)
+returns-2 c = sym (List·getD-eq-default (c .before .args .bytes .now) 0 (c .if1 .left))
 
 pub byte-spec : {M : Type 1} → statement M
-byte-spec = tie.close (tie.spec shared-slice-read-result cast-result returns returns-2)
+byte-spec = tie.close (tie.spec shared-slice-read-result returns returns-2)

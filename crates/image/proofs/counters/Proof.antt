@@ -41,7 +41,7 @@ loop-again : tie.Need-loop-again Inv-loop μ-loop
 unfolding state
 loop-again c =
     let at = c .before .before .loop in
-    (omega arith, simp length-set (omega arith), lists-more _ _ _ _ (at .inv .2) (omega arith) (c .number .ensures .0) (c .number .ensures .1))
+    (omega arith, simp length-set (omega arith), lists-more _ _ _ _ (at .inv .2) (omega arith) (c .number .ensures .0 (omega arith)) (c .number .ensures .1))
 
 returns : tie.Need-returns Inv-loop μ-loop
 returns c =

@@ -1,48 +1,28 @@
 -- `number` gives the number of its record: two bytes, the lower first.
 use mathlib.Core.Path.{sym}
-use native.Mathlib.Omega.{arith}
-use Rattle.image.proofs.Read.{number-at}
+use Prim.Native.Nat.{_*_}
+use native.Mathlib.Nat.{add-zero}
 use borrow.Author.Needs.{needs}
+use Rattle.image.proofs.Read.{number-at}
 use Rattle.image.proofs.number.Statement.{statement}
 use Rattle.image.proofs.number.Tie as tie
 
-mul-byte : tie.Need-mul-byte
-mul-byte c = search needs
-
-byte-requires : tie.Need-byte-requires
-byte-requires c κs = search needs
-
-mul-byte-2 : tie.Need-mul-byte-2
-mul-byte-2 c = search needs
-
-add-byte : tie.Need-add-byte
-add-byte c = search needs
-
-byte-requires-2 : tie.Need-byte-requires-2
-byte-requires-2 c κs = search needs
-
-mul-result : tie.Need-mul-result
-mul-result c = search needs
-
-add-result : tie.Need-add-result
-add-result c = search needs
-
 returns : tie.Need-returns
-returns c =
-    let bs = c .before .before .before .args .bytes .now in
-    let low = c .before .byte .ensures in
-    let high = c .byte2 .ensures in
-    (rw (low .0, high .0) (sym (number-at bs (c .before .before .before .args .k) (c .before .before .before .pre))), omega (arith, low .1, high .1))
+returns c = search needs
+
+cell-requires : tie.Need-cell-requires
+cell-requires c κs = search needs
+
+cell-requires-2 : tie.Need-cell-requires-2
+cell-requires-2 c κs = search needs
+
+pair-requires : tie.Need-pair-requires
+pair-requires c κs = search needs
+
+returns-2 : tie.Need-returns-2
+returns-2 c =
+    let a = c .before .before .before .before .before .args in
+    (λ h. rw (c .pair .ensures .0, c .before .before .cell .ensures, c .before .cell2 .ensures, add-zero (4 * a .k)) (sym (number-at (a .bytes .now) (a .k) h)), c .pair .ensures .1)
 
 pub number-spec : {M : Type 1} → statement M
-number-spec =
-    tie.close
-    (tie.spec
-    mul-byte
-    byte-requires
-    mul-byte-2
-    add-byte
-    byte-requires-2
-    mul-result
-    add-result
-    returns)
+number-spec = tie.close (tie.spec returns cell-requires cell-requires-2 pair-requires returns-2)
