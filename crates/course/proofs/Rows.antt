@@ -7,11 +7,14 @@ use lib.Dec.{eqb}
 use lib.ListN.{getD}
 use Rattle.meaning.specs.Bytes.{bit}
 use Rattle.meaning.specs.Table.{table}
+use Rattle.places.specs.declared.Places.{Places}
+use Rattle.places.specs.Set.{has}
 use Rattle.timing.specs.declared.Intervals.{Intervals}
 use Rattle.timing.proofs.Carry.{sort-is}
 use Rattle.table.proofs.Carry.{transition-bit}
 use Rattle.enabled.specs.declared.Inputs.{Inputs}
-use Rattle.enabled.specs.Inputs.{Inputs-of}
+use Rattle.enabled.specs.declared.Outputs.{Outputs}
+use Rattle.enabled.specs.Inputs.{Inputs-of, Outputs-of}
 use Rattle.cycle.specs.Step.{Net-of}
 use Rattle.cycle.proofs.Facts.{sound, fine}
 use Rattle.course.specs.Course.{Read}
@@ -21,9 +24,10 @@ module _ {bs : List ℕ} {x : Intervals} {index above : List ℕ} {w s posts : L
   pub net-of : (known : ℕ) → ((t : ℕ) → t < 64 → bit known t ≡ bit (getD index (128 + t) 0) 0)
       → (timed : ℕ) → ((t : ℕ) → t < 64 → bit timed t ≡ not (eqb (getD (x .sorts) t 0) 0))
       → (higher : List ℕ) → ((t u : ℕ) → t < 64 → u < 64 → bit (getD higher t 0) u ≡ bit (getD above u 0) t)
-      → (inputs : Inputs) → Inputs-of index inputs
-      → Net-of bs known timed x index higher w s posts takers putters (inputs .low) (inputs .high) truths falses
-  net-of known known-is timed timed-is higher higher-is inputs inputs-hold =
+      → (inputs : Inputs) → Inputs-of index inputs → (outputs : Outputs) → Outputs-of index outputs
+      → (acting : Places) → ((p : ℕ) → p < 128 → has acting p ≡ not (eqb (getD index (576 + p) 0) 0))
+      → Net-of bs known timed acting x index higher w s posts takers putters (inputs .low) (inputs .high) (outputs .low) (outputs .high) truths falses
+  net-of known known-is timed timed-is higher higher-is inputs inputs-hold outputs outputs-hold acting acting-is =
       record {
         sound = read .sound;
         index-holds = read .index-holds;
@@ -37,6 +41,8 @@ module _ {bs : List ℕ} {x : Intervals} {index above : List ℕ} {w s posts : L
         takers-hold = read .takers-hold;
         putters-hold = read .putters-hold;
         inputs = inputs-hold;
+        outputs = outputs-hold;
+        acting-is = acting-is;
         truths-hold = read .truths-hold;
         falses-hold = read .falses-hold;
       }

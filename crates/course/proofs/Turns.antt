@@ -15,7 +15,7 @@ use Rattle.meaning.specs.Answer.{accepted}
 use Rattle.meaning.specs.Defined.{check}
 use Rattle.meaning.specs.Image.{image, state, image-bytes, wrong}
 use Rattle.meaning.specs.Cycle.{overfull, cycle}
-use Rattle.meaning.specs.Calls.{trace}
+use Rattle.meaning.specs.Calls.{words-of, trace}
 use Rattle.meaning.specs.Steps.{Stays, Bursts, Steps}
 use Rattle.meaning.proofs.Below.{first-before}
 use Rattle.meaning.proofs.Near.{Alike}
@@ -28,7 +28,7 @@ use Rattle.image.specs.declared.Held.{Held}
 use Rattle.image.specs.Held.{held, Holds, Small}
 use Rattle.cycle.specs.declared.Outcome.{Outcome}
 use Rattle.cycle.specs.Step.{Stepped}
-use Rattle.course.specs.Course.{Ready, Halts}
+use Rattle.course.specs.Course.{Ready, Halts, Ends}
 
 module _ (bs img ws report : List ℕ) where
   -- After i turns: the meaning's run has reached an image, the arrays hold its state, and the report holds its records.
@@ -76,7 +76,11 @@ module _ (bs img ws report : List ℕ) (sound : check bs ≡ accepted 0) (ready 
       }
 
   module _ (i : ℕ) (h : Held) (out : List ℕ) (at : At bs img ws report i h out) (more : i < length ws / 8) (word : ℕ)
-      (word-is : word ≡ number (take 8 (drop (8 * i) ws))) (r : Outcome) (step : Stepped (table bs) (held h) word r) where
+      (word-is : word ≡ number (take 8 (drop (8 * i) ws))) (r : Outcome) (tokens counters : List ℕ)
+      (step : Stepped (table bs) h word r tokens counters) where
+    abbrev next : Held
+    next = record { tokens = tokens; counters = counters; orders = r .orders }
+
     next-word : Steps (table bs) (words ws) img i (word ∷ drop (suc i) (words ws)) (at .reached) (at .written)
     next-word = rw (word-is, sym (words-from (length ws / 8) i ws more)) (at .steps)
 
@@ -84,21 +88,26 @@ module _ (bs img ws report : List ℕ) (sound : check bs ≡ accepted 0) (ready 
     full-is = step .over-is ∙ same-full (table bs) (accepted-well bs sound) (at .reached) (held h) (at .alike) word
 
     -- A place would be overfull: the run ends with 13, and nothing of this cycle is kept.
-    pub bursts : r .over < 128 → Halts bs img ws report (record { state = h; number = 13; at = r .over; cycles = i }) out
-    bursts l = ends i h out at 13 (r .over) (rw full-is (trace-bursts (table bs) next-word (full-bursts (table bs) (at .reached) word (rw (sym full-is) l))))
+    pub bursts : r .over < 128
+        → Halts bs img ws report
+        (record { state = record { tokens = tokens; counters = counters; orders = h .orders }; number = 13; at = r .over; cycles = i }) out
+    bursts l =
+        let same = step .kept l in
+        rw (same .0, same .1)
+        (ends i h out at 13 (r .over) (rw full-is (trace-bursts (table bs) next-word (full-bursts (table bs) (at .reached) word (rw (sym full-is) l)))))
 
     module _ (none : 128 ≤ r .over) where
       stays : Stays (table bs) (at .reached) word
       stays p l = below-full (table bs) (at .reached) word p (rw (sym full-is) (omega arith))
 
       -- The arrays hold the state after the cycle.
-      agree : Alike (cycle (table bs) (at .reached) word .after) (held (r .next))
+      agree : Alike (cycle (table bs) (at .reached) word .after) (held next)
       agree =
           let same = after-alike (table bs) (accepted-well bs sound) (at .reached) (held h) (at .alike) word in
           record {
-            tokens = λ p l. step .next-holds .tokens p l ∙ same .tokens p l;
-            counter = λ t l. step .next-holds .counters t l ∙ same .counter t l;
-            order = λ t l. step .next-holds .orders t l ∙ same .order t l;
+            tokens = λ p l. step .next-holds none .tokens p l ∙ same .tokens p l;
+            counter = λ t l. step .next-holds none .counters t l ∙ same .counter t l;
+            order = λ t l. step .next-holds none .orders t l ∙ same .order t l;
           }
 
       tokens-low : (p : ℕ) → p < 128 → cycle (table bs) (at .reached) word .after .tokens p ≤ 65535
@@ -111,7 +120,7 @@ module _ (bs img ws report : List ℕ) (sound : check bs ≡ accepted 0) (ready 
       -- No place is: the cycle is finished, and its record written.
       pub turned : (out′ : List ℕ)
           → out′ ≡ take (24 * i) out ++ (bytes 8 (r .fired) ++ bytes 8 (r .actions) ++ bytes 8 (r .functions)) ++ drop (24 * i + 24) out
-          → At bs img ws report (suc i) (r .next) out′
+          → At bs img ws report (suc i) next out′
       turned out′ e =
           record {
             reached = image-bytes (cycle (table bs) (at .reached) word .after);
@@ -155,3 +164,16 @@ module _ (bs img ws report : List ℕ) (sound : check bs ≡ accepted 0) (ready 
     where
       none-left : drop (length ws / 8) (words ws) ≡ []
       none-left = ap (λ (k : ℕ). drop k (words ws)) (sym (words-length (length ws / 8) ws)) ∙ drop-length (words ws)
+
+  -- With no words the trace is empty.
+  pub no-words : length ws < 8 → Ends bs img ws report (record { number = 0; at = 0; cycles = 0 }) img report
+  unfolding words-of
+  no-words few = record { answer-is = rw e refl; image-is = rw e refl; report-is = rw e refl }
+    where
+      none-there : words ws ≡ []
+      none-there =
+          let zero : length ws / 8 ≡ 0 = omega (arith, few) in
+          ap (λ (k : ℕ). words-of k ws) zero
+
+      e : trace (table bs) (words ws) img ≡ record { number = 0; at = 0; cycles = 0; image = img; written = [] }
+      e = trace-finishes (table bs) (rw none-there (Steps.none))

@@ -1,5 +1,6 @@
 // The cycles of a call: one a word, from the image that is lent into the report that is lent.
 use image::Held;
+use places::Places;
 use timing::Intervals;
 ghost use mathlib.Core.Bool.{cond};
 ghost use mathlib.Core.Path.{_≡_};
@@ -33,7 +34,10 @@ fn cycles(
     report: &mut [u8],
     known: u64,
     timed: u64,
-    x: Intervals,
+    acting: Places,
+    sorts: &[u8; 64],
+    a: &[u16; 64],
+    b: &[u16; 64],
     index: &[u64; 768],
     higher: &[u64; 64],
     w: &[[u16; 64]; 128],
@@ -43,25 +47,35 @@ fn cycles(
     putters: &[u64; 128],
     low: &[u64; 64],
     high: &[u64; 64],
+    outlow: &[u64; 64],
+    outhigh: &[u64; 64],
     truths: &[u64; 128],
     falses: &[u64; 128],
 ) -> Halted
-    requires { ⌜ Net-of (now t) known timed x (now index) (now higher) (now w) (now s) (now posts) (now takers) (now putters) (now low) (now high) (now truths) (now falses) ⌝ }
+    requires { ⌜ Net-of (now t) known timed acting (record { sorts = now sorts; a = now a; b = now b }) (now index) (now higher) (now w) (now s) (now posts) (now takers) (now putters) (now low) (now high) (now outlow) (now outhigh) (now truths) (now falses) ⌝ }
     requires { ⌜ Ready (now t) (now image) (now words) (now report) ⌝ }
     ensures { λ e. ⌜ Halts (now (t .entry)) (now (image .entry)) (now (words .entry)) (now (report .entry)) e (now (report .exit)) ⌝ }
 {
     let n = words.len() / 8;
-    let mut h = image::load(image);
+    let h = image::load(image);
+    let mut tokens = h.tokens;
+    let mut counters = h.counters;
+    let mut orders = h.orders;
     let mut i = 0;
     while i < n {
         let word = words::word(words, i);
         let r = cycle::step(
             t,
-            h,
+            &mut tokens,
+            &mut counters,
+            orders,
             word,
             known,
             timed,
-            x,
+            acting,
+            sorts,
+            a,
+            b,
             index,
             higher,
             w,
@@ -71,24 +85,34 @@ fn cycles(
             putters,
             low,
             high,
+            outlow,
+            outhigh,
             truths,
             falses,
         );
         let over = r.over;
         if over < 128 {
             return Halted {
-                state: h,
+                state: Held {
+                    tokens,
+                    counters,
+                    orders,
+                },
                 number: 13,
                 at: over,
                 cycles: i,
             };
         }
         report::store(report, 24 * i, r.fired, r.actions, r.functions);
-        h = r.next;
+        orders = r.orders;
         i += 1;
     }
     Halted {
-        state: h,
+        state: Held {
+            tokens,
+            counters,
+            orders,
+        },
         number: 0,
         at: 0,
         cycles: n,
@@ -129,12 +153,26 @@ pub fn course(
     requires { ⌜ Ready (now t) (now image) (now words) (now report) ⌝ }
     ensures { λ e. ⌜ Ends (now (t .entry)) (now (image .entry)) (now (words .entry)) (now (report .entry)) e (now (image .exit)) (now (report .exit)) ⌝ }
 {
+    if words.len() < 8 {
+        return Ended {
+            number: 0,
+            at: 0,
+            cycles: 0,
+        };
+    }
     let higher = priority::turn(above);
     let inputs = enabled::inputs_of(index);
     let low = inputs.low;
     let high = inputs.high;
+    let outputs = enabled::outputs_of(index);
+    let outlow = outputs.low;
+    let outhigh = outputs.high;
     let known = enabled::known(index);
     let timed = resets::timed(x);
+    let acting = report::acting(index);
+    let sorts = x.sorts;
+    let a = x.a;
+    let b = x.b;
     let e = cycles(
         t,
         image,
@@ -142,7 +180,10 @@ pub fn course(
         report,
         known,
         timed,
-        x,
+        acting,
+        &sorts,
+        &a,
+        &b,
         index,
         &higher,
         w,
@@ -152,6 +193,8 @@ pub fn course(
         putters,
         &low,
         &high,
+        &outlow,
+        &outhigh,
         truths,
         falses,
     );

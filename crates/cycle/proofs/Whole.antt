@@ -1,40 +1,41 @@
 -- What the parts of a cycle say of the rows is what the meaning says of the table.
-use mathlib.Core.Bool.{Bool, true, false, cond, not, _&&_}
+use mathlib.Core.Bool.{Bool, true, false, cond, not, _&&_, _||_}
 use mathlib.Core.List.{List}
 use mathlib.Core.Path.{_≡_, refl, sym, ap, _∙_, fun-ext}
 use Prim.Native.Nat.{ℕ, _+_, _^_, _≤_, _<_}
 use native.Mathlib.Omega.{arith}
 use lib.Dec.{ltb, eqb}
-use lib.ListN.{getD}
-use borrow.Author.Tests.{eqb-true, lt-ltb}
+use lib.ListN.{getD, replicate, getD-replicate}
+use borrow.Author.Tests.{eqb-true, lt-ltb, le-ltb}
 use Rattle.meaning.specs.Below.{some, sum, first, within}
 use Rattle.meaning.specs.Bytes.{bit}
 use Rattle.meaning.specs.Table.{Table, table, is, post, transition, timing, ceiling}
-use Rattle.meaning.specs.Image.{State}
 use Rattle.meaning.specs.Cycle.{enabled, counted, falling, as-wanted, in-time, firable, withdrawn, added, fired, rising, marked, reset, active, executed, overfull}
 use Rattle.meaning.proofs.Below.{sum-mono, first-same}
-use Rattle.meaning.proofs.Bool.{and-left}
+use Rattle.meaning.proofs.Bool.{and-left, or-false-left, or-false-right}
 use Rattle.meaning.proofs.Accepted.{accepted-well}
 use Rattle.table.proofs.Carry.{Clean}
+use Rattle.places.specs.declared.Places.{Places}
+use Rattle.places.specs.Set.{has}
 use Rattle.net.specs.Rows.{Weights, Sorts, cell}
 use Rattle.timing.specs.declared.Intervals.{Intervals}
 use Rattle.timing.proofs.Carry.{sort-is}
 use Rattle.image.specs.declared.Held.{Held}
-use Rattle.image.specs.Held.{held, Holds}
+use Rattle.image.specs.Held.{held, Holds, Small}
 use Rattle.enabled.specs.Inputs.{enabled-by}
-use Rattle.enabled.proofs.Carry.{enabled-same}
-use Rattle.edges.specs.Edges.{fallen, fallen-at, firable-at}
+use Rattle.enabled.proofs.Carry.{enabled-same, taker-near, outputs-same}
+use Rattle.edges.specs.Edges.{fallen, fallen-at, Falls, firable-at}
 use Rattle.edges.proofs.Carry.{fallen-same, timely-same, asked-same}
-use Rattle.moves.specs.Moves.{moved-at, Moved}
+use Rattle.moves.specs.Moves.{moved-at, at-words, Moved}
 use Rattle.moves.proofs.Carry.{withdrawn-same, added-same}
+use Rattle.moves.proofs.Near.{moved-everywhere}
 use Rattle.fire.specs.Fired.{Ranks, Fires}
 use Rattle.fire.proofs.Carry.{well-ranks, fires-is}
-use Rattle.settle.specs.declared.Marking.{Marking}
 use Rattle.settle.specs.Settle.{new-at, Settled}
 use Rattle.resets.specs.Starved.{reset-by}
-use Rattle.resets.proofs.Carry.{starved-same}
-use Rattle.report.proofs.Carry.{bits-of, actions-are, functions-are}
-use Rattle.cycle.specs.Step.{Net-of, Stepped}
+use Rattle.resets.proofs.Carry.{starved-near, starved-same}
+use Rattle.report.proofs.Carry.{bits-of, acting-same, actions-are, functions-are}
+use Rattle.cycle.specs.Step.{Net-of, Sized, Stepped}
 use Rattle.cycle.proofs.Facts.{latest-low, weight-low, sound, arcs, input-once, post-once, conditions, untimed, fine}
 
 -- Four tests, the last three together.
@@ -42,9 +43,9 @@ grouped : (a b c d : Bool) → (a && b && c && d) ≡ (a && (b && c && d))
 grouped true b c d = refl
 grouped false b c d = refl
 
-module _ (bs : List ℕ) (known timed : ℕ) (x : Intervals) (index higher : List ℕ) (w s posts : List (List ℕ))
-    (takers putters low high truths falses : List ℕ)
-    (net : Net-of bs known timed x index higher w s posts takers putters low high truths falses) where
+module _ (bs : List ℕ) (known timed : ℕ) (acting : Places) (x : Intervals) (index higher : List ℕ) (w s posts : List (List ℕ))
+    (takers putters low high outs-low outs-high truths falses : List ℕ)
+    (net : Net-of bs known timed acting x index higher w s posts takers putters low high outs-low outs-high truths falses) where
   clean : Clean (table bs) index
   clean = record { fine = fine bs (net .sound); index = net .index-holds }
 
@@ -81,10 +82,23 @@ module _ (bs : List ℕ) (known timed : ℕ) (x : Intervals) (index higher : Lis
 
   module _ (h : Held) (on : ℕ)
       (on-is : (t : ℕ) → bit on t ≡ (ltb t 64 && (bit known t && enabled-by (h .tokens) w s (getD low t 0) (getD high t 0) t)))
-      (counters : List ℕ) (fallen-is : (t : ℕ) → t < 64 → getD counters t 0 ≡ fallen-at x (h .counters) (h .orders) on t) where
+      (counters : List ℕ) (falls : Falls timed x (h .orders) on (h .counters) counters) where
     -- The set of the enabled has the enabled transitions.
     on-bit : (t : ℕ) → t < 64 → bit on t ≡ (transition (table bs) t && enabled (table bs) (held h .tokens) t)
     on-bit t l = on-is t ∙ rw (lt-ltb t 64 l, net .known-is t l, enables (h .tokens) t l)
+
+    -- The counter of an untimed transition stays, as it does at the falling edge.
+    fallen-is : (t : ℕ) → t < 64 → getD counters t 0 ≡ fallen-at x (h .counters) (h .orders) on t
+    unfolding fallen
+    fallen-is t l = falls .holds t l ∙ go (eqb (timing (table bs) t) 0) refl
+      where
+        sort : getD (x .sorts) t 0 ≡ timing (table bs) t
+        sort = sort-is (table bs) (sound bs (net .sound)) x (net .times) t l
+
+        go : (b : Bool) → eqb (timing (table bs) t) 0 ≡ b
+            → cond (bit timed t) (fallen-at x (h .counters) (h .orders) on t) (getD (h .counters) t 0) ≡ fallen-at x (h .counters) (h .orders) on t
+        go true e = rw (net .timed-is t l, e, sort, e)
+        go false e = rw (net .timed-is t l, e)
 
     -- The counters are those after the falling edge.
     pub counter-is : (t : ℕ) → t < 64 → getD counters t 0 ≡ counted (table bs) (held h) t
@@ -122,58 +136,126 @@ module _ (bs : List ℕ) (known timed : ℕ) (x : Intervals) (index higher : Lis
         one-set : bit f ≡ within (fired (table bs) (falling (table bs) (held h)) word)
         one-set = fun-ext fired-bit
 
-        module _ (taken put : List ℕ) (take-is : Moved f takers w taken) (put-is : Moved f putters posts put) (r : Marking)
-            (settled : Settled (h .tokens) taken put r) (after : ℕ)
-            (after-is : (t : ℕ) → bit after t ≡ (ltb t 64 && reset-by timed f (h .tokens) taken w s low high t)) (actions functions : ℕ)
-            (actions-is : (k : ℕ) → k < 64 → bit actions k ≡ some 128 (λ p. ltb 0 (getD (h .tokens) p 0) && bit (getD index (576 + p) 0) k))
-            (functions-is : (k : ℕ) → k < 64 → bit functions k ≡ some 64 (λ t. bit f t && bit (getD index (704 + t) 0) k))
-            (actions-low : actions < 2 ^ 64) (functions-low : functions < 2 ^ 64) where
+        -- The places of the fired ones' arcs.
+        module _ (from to at : Places) (from-is : (p : ℕ) → has from p ≡ some 64 (λ t. bit f t && at-words low high t p))
+            (to-is : (p : ℕ) → has to p ≡ some 64 (λ t. bit f t && at-words outs-low outs-high t p))
+            (at-is : (p : ℕ) → has at p ≡ (has from p || has to p)) (taken put : List ℕ)
+            (take-is : Moved (replicate 128 0) from f takers w taken) (put-is : Moved (replicate 128 0) to f putters posts put) where
+          zeros : (p : ℕ) → p < 128 → getD {A = ℕ} (replicate 128 0) p 0 ≡ 0
+          zeros p l = getD-replicate {A = ℕ} 128 p 0 0 l
+
+          taker-has : (p t : ℕ) → p < 128 → t < 64 → bit (getD takers p 0) t ≡ true → at-words low high t p ≡ true
+          taker-has p t l m =
+              taker-near (table bs) w s index (record { low = low; high = high }) (net .weights) (net .sorts) clean (net .inputs) (arcs bs (net .sound))
+              (input-once bs (net .sound)) t m takers (net .takers-hold) p l
+
+          putter-has : (p t : ℕ) → p < 128 → t < 64 → bit (getD putters p 0) t ≡ true → at-words outs-low outs-high t p ≡ true
+          putter-has p t l m e =
+              outputs-same (table bs) index clean (record { low = outs-low; high = outs-high }) (net .outputs) t p m l
+              ∙ sym (net .putters-hold .holds p t l m) ∙ e
+
           out : (p : ℕ) → p < 128 → getD taken p 0 ≡ withdrawn (table bs) (bit f) p
-          out p l = take-is .holds p l ∙ takes f p l
+          out p l = moved-everywhere from f takers w low high from-is taker-has _ taken zeros take-is p l ∙ takes f p l
+
+          put-at : (p : ℕ) → p < 128 → getD put p 0 ≡ moved-at f putters posts p
+          put-at p l = moved-everywhere to f putters posts outs-low outs-high to-is putter-has _ put zeros put-is p l
+
+          -- What is put fits.
+          pub put-fits : (p : ℕ) → p < 128 → getD put p 0 ≤ 4194240
+          put-fits p l = rw (put-at p l) (put-low f p l)
+
+          -- Elsewhere nothing is taken, and nothing is put.
+          not-taken : (p : ℕ) → p < 128 → has from p ≡ false → getD taken p 0 ≡ 0
+          not-taken p l e = take-is .holds p l ∙ rw e (zeros p l)
+
+          not-put : (p : ℕ) → p < 128 → has to p ≡ false → getD put p 0 ≡ 0
+          not-put p l e = put-is .holds p l ∙ rw e (zeros p l)
+
+          stays : (p : ℕ) → p < 128 → has at p ≡ false → new-at (h .tokens) taken put p ≡ getD (h .tokens) p 0
+          stays p l e =
+              let neither : (has from p || has to p) ≡ false = sym (at-is p) ∙ e in
+              rw (not-taken p l (or-false-left (has from p) (has to p) neither), not-put p l (or-false-right (has from p) (has to p) neither)) (omega arith)
 
           -- The new tokens are those of the new marking.
-          new-is : (p : ℕ) → p < 128 → new-at (h .tokens) taken put p ≡ marked (table bs) (held h .tokens) (bit f) p
+          token-is : (p : ℕ) → p < 128
+              → new-at (h .tokens) taken put p
+              ≡ marked (table bs) (held h .tokens) (within (fired (table bs) (falling (table bs) (held h)) word)) p
           unfolding marked
-          new-is p l = rw (out p l, put-is .holds p l, puts f p l)
+          token-is p l =
+              let here : new-at (h .tokens) taken put p ≡ marked (table bs) (held h .tokens) (bit f) p = rw (out p l, put-at p l, puts f p l) in
+              here ∙ ap (λ (F : ℕ → Bool). marked (table bs) (held h .tokens) F p) one-set
 
-          -- The orders are those after the rising edge.
-          order-is : (t : ℕ) → t < 64 → bit after t ≡ reset (table bs) (held h .tokens) (bit f) t
-          unfolding reset
-          order-is t l =
-              after-is t
-              ∙ rw (
-                lt-ltb t 64 l,
-                net .timed-is t l,
-                starved-same (table bs) w s index (record { low = low; high = high }) (net .weights) (net .sorts) clean (net .inputs)
-                    (arcs bs (net .sound)) (input-once bs (net .sound)) t l (h .tokens) taken (bit f) out,
-              )
+          module _ (small : Small h) (over : ℕ) (over-is : over ≡ first 128 (λ p. has at p && ltb 65535 (new-at (h .tokens) taken put p)))
+              (actions functions : ℕ)
+              (actions-is : (k : ℕ) → bit actions k ≡ some 128 (λ p. has acting p && (ltb 0 (getD (h .tokens) p 0) && bit (getD index (576 + p) 0) k)))
+              (functions-is : (k : ℕ) → bit functions k ≡ some 64 (λ t. bit f t && bit (getD index (704 + t) 0) k))
+              (actions-low : actions < 2 ^ 64) (functions-low : functions < 2 ^ 64) where
+            -- No place elsewhere is overfull.
+            first-is : over ≡ first 128 (overfull (table bs) (rising (table bs) (falling (table bs) (held h)) (within (fired (table bs) (falling (table bs) (held h)) word))))
+            unfolding falling rising overfull ceiling
+            first-is = over-is ∙ first-same 128 _ _ (λ p l. go p l (has at p) refl ∙ ap (ltb 65535) (token-is p l))
+              where
+                go : (p : ℕ) → p < 128 → (b : Bool) → has at p ≡ b → (b && ltb 65535 (new-at (h .tokens) taken put p)) ≡ ltb 65535 (new-at (h .tokens) taken put p)
+                go p l true e = refl
+                go p l false e = sym (rw (stays p l e) (le-ltb 65535 (getD (h .tokens) p 0) (small .tokens p l)))
 
-          pub stepped : Stepped (table bs) (held h) word
-              (record {
-                next = record { tokens = r .tokens; counters = counters; orders = after };
-                fired = f;
-                actions = actions;
-                functions = functions;
-                over = r .over;
-              })
-          unfolding falling rising overfull marked ceiling
-          stepped =
-              record {
-                fired-is = bits-of f _ f-low (λ t l. fired-bit t);
-                actions-are = bits-of actions _ actions-low (λ k l. actions-is k l ∙ actions-are clean (held h .tokens) k l);
-                functions-are =
-                    bits-of functions _ functions-low
-                    (λ k l. functions-is k l ∙ functions-are clean (bit f) k l ∙ ap (λ (F : ℕ → Bool). executed (table bs) F k) one-set);
-                over-is = settled .over ∙ first-same 128 _ _ (λ p l. ap (ltb 65535) (token-is p l));
-                next-holds =
-                    record {
-                      tokens = λ p l. settled .tokens p l ∙ token-is p l;
-                      counters = counter-is;
-                      orders = λ t l. order-is t l ∙ ap (λ (F : ℕ → Bool). reset (table bs) (held h .tokens) F t) one-set;
-                    };
-              }
-            where
-              token-is : (p : ℕ) → p < 128
-                  → new-at (h .tokens) taken put p
-                  ≡ marked (table bs) (held h .tokens) (within (fired (table bs) (falling (table bs) (held h)) word)) p
-              token-is p l = new-is p l ∙ ap (λ (F : ℕ → Bool). marked (table bs) (held h .tokens) F p) one-set
+            -- What the cycle says, whatever it leaves.
+            pub says : (orders : ℕ) (tokens after : List ℕ) (kept : over < 128 → (tokens ≡ h .tokens) × (after ≡ h .counters))
+                → (128 ≤ over → Holds (record { tokens = tokens; counters = after; orders = orders })
+                (rising (table bs) (falling (table bs) (held h)) (within (fired (table bs) (falling (table bs) (held h)) word))))
+                → Sized tokens after
+                → Stepped (table bs) h word (record { fired = f; actions = actions; functions = functions; over = over; orders = orders }) tokens after
+            says orders tokens after kept holds sized =
+                record {
+                  fired-is = bits-of f _ f-low (λ t l. fired-bit t);
+                  actions-are =
+                      bits-of actions _ actions-low
+                      (λ k l. actions-is k ∙ acting-same clean acting (net .acting-is) (held h .tokens) k ∙ actions-are clean (held h .tokens) k l);
+                  functions-are =
+                      bits-of functions _ functions-low
+                      (λ k l. functions-is k ∙ functions-are clean (bit f) k l ∙ ap (λ (F : ℕ → Bool). executed (table bs) F k) one-set);
+                  over-is = first-is;
+                  kept = kept;
+                  next-holds = holds;
+                  sized = sized;
+                }
+
+            -- A place would be overfull, and all stays.
+            pub bursts : over < 128 → Sized (h .tokens) (h .counters)
+                → Stepped (table bs) h word (record { fired = f; actions = actions; functions = functions; over = over; orders = h .orders }) (h .tokens) (h .counters)
+            bursts l sized = says (h .orders) (h .tokens) (h .counters) (λ b. (refl, refl)) (λ b. absurd (omega (arith, b, l))) sized
+
+            module _ (full : 128 ≤ over) (after : ℕ)
+                (after-is : (t : ℕ) → bit after t ≡ (ltb t 64 && reset-by from timed f (h .tokens) taken w s low high t)) (tokens : List ℕ)
+                (settled : Settled (h .tokens) at taken put tokens) where
+              -- The orders are those after the rising edge.
+              order-is : (t : ℕ) → t < 64 → bit after t ≡ reset (table bs) (held h .tokens) (bit f) t
+              unfolding reset
+              order-is t l =
+                  after-is t
+                  ∙ rw (
+                    lt-ltb t 64 l,
+                    net .timed-is t l,
+                    starved-near from (h .tokens) taken w s (getD low t 0) (getD high t 0) t not-taken,
+                    starved-same (table bs) w s index (record { low = low; high = high }) (net .weights) (net .sorts) clean (net .inputs)
+                        (arcs bs (net .sound)) (input-once bs (net .sound)) t l (h .tokens) taken (bit f) out,
+                  )
+
+              settles : (p : ℕ) → p < 128 → getD tokens p 0 ≡ new-at (h .tokens) taken put p
+              settles p l = settled .tokens p l ∙ go (has at p) refl
+                where
+                  go : (b : Bool) → has at p ≡ b → cond b (new-at (h .tokens) taken put p) (getD (h .tokens) p 0) ≡ new-at (h .tokens) taken put p
+                  go true e = refl
+                  go false e = sym (stays p l e)
+
+              pub stepped : Stepped (table bs) h word (record { fired = f; actions = actions; functions = functions; over = over; orders = after }) tokens counters
+              unfolding falling rising
+              stepped =
+                  says after tokens counters (λ b. absurd (omega (arith, b, full)))
+                  (λ b.
+                  record {
+                    tokens = λ p l. settles p l ∙ token-is p l;
+                    counters = counter-is;
+                    orders = λ t l. order-is t l ∙ ap (λ (F : ℕ → Bool). reset (table bs) (held h .tokens) F t) one-set;
+                  })
+                  (record { places = settled .size; transitions = falls .size })

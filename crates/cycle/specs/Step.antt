@@ -2,29 +2,31 @@
 use mathlib.Core.Bool.{not}
 use mathlib.Core.List.{List}
 use mathlib.Core.Path.{_≡_}
-use Prim.Native.Nat.{ℕ, _<_}
+use Prim.Native.Nat.{ℕ, _+_, _≤_, _<_}
 use lib.Dec.{eqb}
-use lib.ListN.{getD}
+use lib.ListN.{length, getD}
 use Rattle.meaning.specs.Below.{first, within}
 use Rattle.meaning.specs.Bytes.{bit, bits}
 use Rattle.meaning.specs.Table.{Table, table, transition, timing}
 use Rattle.meaning.specs.Answer.{accepted}
 use Rattle.meaning.specs.Priority.{above}
 use Rattle.meaning.specs.Defined.{check}
-use Rattle.meaning.specs.Image.{State}
 use Rattle.meaning.specs.Cycle.{falling, fired, rising, active, executed, overfull}
+use Rattle.places.specs.declared.Places.{Places}
+use Rattle.places.specs.Set.{has}
 use Rattle.net.specs.Rows.{Gathered, Weights, Sorts}
 use Rattle.moves.specs.Moves.{Posts}
 use Rattle.timing.specs.declared.Intervals.{Intervals}
 use Rattle.timing.specs.Times.{Times-of}
-use Rattle.enabled.specs.Inputs.{Inputs-of}
+use Rattle.enabled.specs.Inputs.{Inputs-of, Outputs-of}
 use Rattle.table.specs.Index.{Indexed}
-use Rattle.image.specs.Held.{Holds, Small}
+use Rattle.image.specs.declared.Held.{Held}
+use Rattle.image.specs.Held.{held, Holds}
 use Rattle.cycle.specs.declared.Outcome.{Outcome}
 
 -- The rows are those of the accepted table that the bytes spell.
-pub record Net-of (bs : List ℕ) (known timed : ℕ) (x : Intervals) (index higher : List ℕ) (w s posts : List (List ℕ))
-    (takers putters low high truths falses : List ℕ) : Type 0 where
+pub record Net-of (bs : List ℕ) (known timed : ℕ) (acting : Places) (x : Intervals) (index higher : List ℕ) (w s posts : List (List ℕ))
+    (takers putters low high outs-low outs-high truths falses : List ℕ) : Type 0 where
   pub sound : check bs ≡ accepted 0
   pub index-holds : Indexed (table bs) (table bs .records) index
   pub known-is : (t : ℕ) → t < 64 → bit known t ≡ transition (table bs) t
@@ -37,13 +39,25 @@ pub record Net-of (bs : List ℕ) (known timed : ℕ) (x : Intervals) (index hig
   pub takers-hold : Gathered (table bs) 3 0 takers
   pub putters-hold : Gathered (table bs) 3 3 putters
   pub inputs : Inputs-of index (record { low = low; high = high })
+  pub outputs : Outputs-of index (record { low = outs-low; high = outs-high })
+  pub acting-is : (p : ℕ) → p < 128 → has acting p ≡ not (eqb (getD index (576 + p) 0) 0)
   pub truths-hold : Gathered (table bs) 4 0 truths
   pub falses-hold : Gathered (table bs) 4 1 falses
 
--- One cycle of the table from the state z: its three sets, the lowest overfull place, and, where there is none, the state after it.
-pub record Stepped (tb : Table) (z : State) (word : ℕ) (r : Outcome) : Type 0 where
-  pub fired-is : r .fired ≡ bits (within (fired tb (falling tb z) word))
-  pub actions-are : r .actions ≡ bits (active tb (z .tokens))
-  pub functions-are : r .functions ≡ bits (executed tb (within (fired tb (falling tb z) word)))
-  pub over-is : r .over ≡ first 128 (overfull tb (rising tb (falling tb z) (within (fired tb (falling tb z) word))))
-  pub next-holds : Holds (r .next) (rising tb (falling tb z) (within (fired tb (falling tb z) word)))
+-- Every place has its tokens, and every transition its counter.
+pub record Sized (tokens counters : List ℕ) : Type 0 where
+  pub places : length tokens ≡ 128
+  pub transitions : length counters ≡ 64
+
+-- One cycle of the table from the state that h holds: its three sets and the lowest overfull place. Where there is none, tokens, counters and
+-- orders hold the state after it, and else the tokens and counters are as they were.
+pub record Stepped (tb : Table) (h : Held) (word : ℕ) (r : Outcome) (tokens counters : List ℕ) : Type 0 where
+  pub fired-is : r .fired ≡ bits (within (fired tb (falling tb (held h)) word))
+  pub actions-are : r .actions ≡ bits (active tb (held h .tokens))
+  pub functions-are : r .functions ≡ bits (executed tb (within (fired tb (falling tb (held h)) word)))
+  pub over-is : r .over ≡ first 128 (overfull tb (rising tb (falling tb (held h)) (within (fired tb (falling tb (held h)) word))))
+  pub kept : r .over < 128 → (tokens ≡ h .tokens) × (counters ≡ h .counters)
+  pub next-holds : 128 ≤ r .over
+      → Holds (record { tokens = tokens; counters = counters; orders = r .orders })
+      (rising tb (falling tb (held h)) (within (fired tb (falling tb (held h)) word)))
+  pub sized : Sized tokens counters

@@ -1,4 +1,4 @@
--- A set inside another; counters changed so far; and the walk over a set's members in order, each kept or not.
+-- A set inside another; and the walk over a set's members in order, each kept or not.
 use mathlib.Core.Bool.{Bool, true, false, not, _&&_, _||_, and-true, and-false, or-false}
 use mathlib.Core.List.{List}
 use mathlib.Core.Logic.{inl, inr}
@@ -41,23 +41,6 @@ inside s t h l =
     both true true e = refl
     both true false e = sym e
     both false b e = refl
-
--- The first n of 64 numbers are f's.
-pub record Moved (n : ℕ) (f : ℕ → ℕ) (xs : List ℕ) : Type 0 where
-  pub size : length xs ≡ 64
-  pub below : (j : ℕ) → j < n → getD xs j 0 ≡ f j
-
--- None is, and one more.
-pub moved-none : (f : ℕ → ℕ) (xs : List ℕ) → length xs ≡ 64 → Moved 0 f xs
-moved-none f xs l = record { size = l; below = λ j h. absurd (not-suc-le-zero h) }
-
-pub moved-more : (n : ℕ) (f : ℕ → ℕ) (xs : List ℕ) → Moved n f xs → n < 64 → (v : ℕ) → v ≡ f n → Moved (n + 1) f (set xs n v)
-moved-more n f xs m h v e =
-    record {
-      size = length-set xs n v ∙ m .size;
-      below = below-more _ n (λ j l. getD-set-other xs n j v 0 (λ q. omega arith) ∙ m .below j l)
-          (getD-set-same xs n v 0 (omega (arith, m .size)) ∙ e);
-    }
 
 -- The walk over the members of `on` has come to t: `left` has the members from t on, t the first, and `able` those before t that pass q.
 pub record Walked (q : ℕ → Bool) (on left able t : ℕ) : Type 0 where

@@ -1,9 +1,10 @@
 -- The falling edge's counters, and which transitions are firable, read off arrays and sets.
 use mathlib.Core.Bool.{Bool, cond, not, _&&_, _||_}
 use mathlib.Core.List.{List}
-use Prim.Native.Nat.{ℕ, suc}
+use mathlib.Core.Path.{_≡_}
+use Prim.Native.Nat.{ℕ, suc, _<_}
 use lib.Dec.{leb, ltb, eqb}
-use lib.ListN.{getD}
+use lib.ListN.{length, getD}
 use Rattle.meaning.specs.Below.{some}
 use Rattle.meaning.specs.Bytes.{bit}
 use Rattle.timing.specs.declared.Intervals.{Intervals}
@@ -17,6 +18,11 @@ fallen sort a b on order c = cond (eqb sort 0) c (cond on (cond order 1 (cond (c
 abbrev pub fallen-at : Intervals → List ℕ → ℕ → ℕ → ℕ → ℕ
 fallen-at x counters orders on t =
     fallen (getD (x .sorts) t 0) (getD (x .a) t 0) (getD (x .b) t 0) (bit on t) (bit orders t) (getD counters t 0)
+
+-- Each timed transition's counter has gone through the falling edge, and each other is as it was.
+pub record Falls (timed : ℕ) (x : Intervals) (orders on : ℕ) (before after : List ℕ) : Type 0 where
+  pub size : length after ≡ 64
+  pub holds : (t : ℕ) → t < 64 → getD after t 0 ≡ cond (bit timed t) (fallen-at x before orders on t) (getD before t 0)
 
 -- The counter is in time: untimed; else at least a and, for sort 1, at most b.
 unfoldable pub timely : ℕ → ℕ → ℕ → ℕ → Bool

@@ -1,11 +1,11 @@
 // The two edges of a cycle: the counters after the falling edge, and the set of the transitions that are firable at the rising edge.
 ghost use mathlib.Core.Path.{_≡_};
 ghost use mathlib.Core.Bool.{_&&_};
-ghost use Prim.Native.Nat.{ℕ, _<_};
+ghost use Prim.Native.Nat.{ℕ};
 ghost use lib.Dec.{ltb};
-ghost use lib.ListN.{getD};
+ghost use lib.ListN.{length};
 ghost use Rattle.meaning.specs.Bytes.{bit};
-ghost use Rattle.edges.specs.Edges.{fallen, fallen-at, timely, as-asked, firable-at};
+ghost use Rattle.edges.specs.Edges.{fallen, Falls, timely, as-asked, firable-at};
 
 // The counter of a transition of this sort, a and b after the falling edge: enabled or not, with a reset order or not.
 fn fallen(sort: u8, a: u16, b: u16, on: bool, order: bool, c: u32) -> u32
@@ -27,28 +27,33 @@ fn fallen(sort: u8, a: u16, b: u16, on: bool, order: bool, c: u32) -> u32
     }
 }
 
-// The counters after the falling edge; those of untimed transitions stay.
-pub fn fall(counters: &[u32; 64], orders: u64, on: u64, x: timing::Intervals) -> [u32; 64]
-    ensures { λ r. ⌜ ((t : ℕ) → t < 64 → getD r t 0 ≡ fallen-at x (now (counters .entry)) orders on t) ⌝ }
+// The counters of the timed transitions go through the falling edge; those of the others stay.
+pub fn fall(
+    counters: &mut [u32; 64],
+    timed: u64,
+    orders: u64,
+    on: u64,
+    sorts: &[u8; 64],
+    a: &[u16; 64],
+    b: &[u16; 64],
+)
+    requires { ⌜ length (now counters) ≡ 64 ⌝ }
+    ensures { λ _. ⌜ Falls timed (record { sorts = now (sorts .entry); a = now (a .entry); b = now (b .entry) }) orders on (now (counters .entry)) (now (counters .exit)) ⌝ }
 {
-    let mut next = [0u32; 64];
-    let mut t = 0;
+    let mut left = timed;
+    let mut t = sets::lowest(left);
     while t < 64 {
-        if x.sorts[t] == 0 {
-            next[t] = counters[t];
-        } else {
-            next[t] = fallen(
-                x.sorts[t],
-                x.a[t],
-                x.b[t],
-                sets::has(on, t),
-                sets::has(orders, t),
-                counters[t],
-            );
-        }
-        t += 1;
+        counters[t] = fallen(
+            sorts[t],
+            a[t],
+            b[t],
+            sets::has(on, t),
+            sets::has(orders, t),
+            counters[t],
+        );
+        left = sets::rest(left);
+        t = sets::lowest(left);
     }
-    next
 }
 
 // Are the conditions wanted true all in the word, and those wanted false all out of it?
@@ -82,23 +87,25 @@ fn timely(sort: u8, a: u16, b: u16, c: u32) -> bool
 pub fn firable(
     on: u64,
     counters: &[u32; 64],
-    x: timing::Intervals,
+    sorts: &[u8; 64],
+    a: &[u16; 64],
+    b: &[u16; 64],
     truths: &[u64; 128],
     falses: &[u64; 128],
     word: u64,
 ) -> u64
-    ensures { λ r. ⌜ ((t : ℕ) → bit r t ≡ (ltb t 64 && firable-at x (now (counters .entry)) on (now (truths .entry)) (now (falses .entry)) word t)) ⌝ }
+    ensures { λ r. ⌜ ((t : ℕ) → bit r t ≡ (ltb t 64 && firable-at (record { sorts = now (sorts .entry); a = now (a .entry); b = now (b .entry) }) (now (counters .entry)) on (now (truths .entry)) (now (falses .entry)) word t)) ⌝ }
 {
     let mut left = on;
     let mut able = 0u64;
     let mut t = sets::lowest(left);
     while t < 64 {
         if asked(truths[t], falses[t], word) {
-            if timely(x.sorts[t], x.a[t], x.b[t], counters[t]) {
+            if timely(sorts[t], a[t], b[t], counters[t]) {
                 able = sets::with(able, t);
             }
         }
-        left = sets::without(left, t);
+        left = sets::rest(left);
         t = sets::lowest(left);
     }
     able

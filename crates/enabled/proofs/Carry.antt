@@ -17,13 +17,14 @@ use Rattle.meaning.proofs.Bool.{and-left, and-right, and-true, same-test}
 use Rattle.meaning.proofs.Below.{every-elim, some-intro, some-elim, some-same}
 use Rattle.meaning.proofs.Shows.{Shows}
 use Rattle.meaning.proofs.Faults.{faultless}
-use Rattle.net.specs.Rows.{Weights, Sorts, input, cell}
+use Rattle.net.specs.Rows.{Gathered, Weights, Sorts, input, cell}
 use Rattle.net.proofs.Carry.{latest-is}
 use Rattle.table.specs.Index.{row}
 use Rattle.table.proofs.Carry.{Clean}
 use Rattle.table.proofs.Rows.{kind-of, Spot, spot, row-test, beq-true}
 use Rattle.enabled.specs.declared.Inputs.{Inputs}
-use Rattle.enabled.specs.Inputs.{Inputs-of, in-words, stops-at, enabled-by}
+use Rattle.enabled.specs.declared.Outputs.{Outputs}
+use Rattle.enabled.specs.Inputs.{Inputs-of, Outputs-of, in-words, stops-at, enabled-by}
 
 -- At most is not above.
 at-most : (a b : ℕ) → leb a b ≡ not (ltb b a)
@@ -132,6 +133,15 @@ module _ (tb : Table) (w s : List (List ℕ)) (index : List ℕ) (x : Inputs) (g
           let past : 192 + (64 + (p - 64)) ≡ 192 + p = omega (arith, ltb-false p 64 e) in
           gx .high t (p - 64) ht (omega arith) ∙ rw past
 
+  -- Who takes from a place has the place in its words.
+  pub taker-near : (takers : List ℕ) → Gathered tb 3 0 takers → (p : ℕ) → p < 128 → bit (getD takers p 0) t ≡ true
+      → in-words (getD (x .low) t 0) (getD (x .high) t 0) p ≡ true
+  taker-near takers g p h e =
+      let r = some-elim (tb .records) _ (sym (g .holds p t h ht) ∙ e) in
+      let q = each (is tb 3 (r .0)) (eqb (tb .sort (r .0)) 0) (eqb (tb .one (r .0)) p) (eqb (tb .two (r .0)) t) (r .2) in
+      let other = ne-eqb (tb .sort (r .0)) 3 (λ z. omega (arith, eqb-true (tb .sort (r .0)) 0 (q .1))) in
+      words-same p h ∙ some-intro (tb .records) (from-to tb p t) (r .0) (r .1) (rw (q .0, other, q .2, q .3))
+
   -- So a test of the places in t's words is a test of t's input arcs.
   pub by-arc : (f g : ℕ → Bool) → ((r : ℕ) → Arc tb t r → f (tb .one r) ≡ g r) → ((r : ℕ) → r < tb .records → g r ≡ true → Arc tb t r)
       → some 128 (λ p. in-words (getD (x .low) t 0) (getD (x .high) t 0) p && f p) ≡ some (tb .records) g
@@ -172,3 +182,23 @@ module _ (tb : Table) (w s : List (List ℕ)) (index : List ℕ) (x : Inputs) (g
       (λ r h e.
       let q = each (is tb 3 r) (not (post tb r)) (eqb (tb .two r) t) _ e in
       arc-of r h (q .0) (q .1) (q .2)))
+
+-- The words of the post arcs have place p just if a post arc comes to it from t.
+pub outputs-same : (tb : Table) (index : List ℕ) (clean : Clean tb index) (x : Outputs) → Outputs-of index x → (t p : ℕ) → t < 64 → p < 128
+    → in-words (getD (x .low) t 0) (getD (x .high) t 0) p ≡ some (tb .records) (λ r. post tb r && eqb (tb .one r) p && eqb (tb .two r) t)
+unfolding row faulty
+outputs-same tb index clean x g t p ht h = go (ltb p 64) refl ∙ row-same
+  where
+    row-same : bit (getD index (320 + p) 0) t ≡ some (tb .records) (λ r. post tb r && eqb (tb .one r) p && eqb (tb .two r) t)
+    row-same =
+        clean .index .holds (320 + p) t (omega arith) ht
+        ∙ some-same (tb .records) _ _
+        (λ r l.
+        let z = spot (faultless tb r (rw (clean .fine r l)) .0) in
+        ap (λ (b : Bool). b && eqb (tb .two r) t) (row-test z 3 p (omega arith) h ∙ ap (λ (b : Bool). b && eqb (tb .one r) p) (sym (z .post-is))))
+
+    go : (b : Bool) → ltb p 64 ≡ b → cond b (bit (getD (x .low) t 0) p) (bit (getD (x .high) t 0) (p - 64)) ≡ bit (getD index (320 + p) 0) t
+    go true e = g .low t p ht (ltb-true p 64 e)
+    go false e =
+        let past : 320 + (64 + (p - 64)) ≡ 320 + p = omega (arith, ltb-false p 64 e) in
+        g .high t (p - 64) ht (omega arith) ∙ rw past

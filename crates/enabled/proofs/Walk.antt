@@ -14,6 +14,7 @@ use Rattle.meaning.specs.Bytes.{bit}
 use Rattle.meaning.proofs.Bool.{not-both}
 use Rattle.meaning.proofs.Below.{some-intro, some-elim, none-intro, some-same, first-before, first-passes}
 use Rattle.sets.proofs.Bits.{bit-zero, bit-least, bit-less, bit-out, same-set, zero-set}
+use Rattle.sets.proofs.Walk.{next-number}
 use Rattle.enabled.specs.Inputs.{Spread}
 
 -- The lowest member of a word that is not empty is below 64, and is in the word.
@@ -77,22 +78,6 @@ all-kept f known left r t h e q = sym (rw (e, bit-zero t) (or-false (bit r t))) 
     go : (x : Bool) → ltb t 64 ≡ x → (bit known t && f t) ≡ (x && (bit known t && f t))
     go true l = refl
     go false l = rw (bit-out known t h (ltb-false t 64 l))
-
--- A walk over the numbers below 64: before the first nothing is kept, and one more is kept if it passes.
-pub no-number : (f : ℕ → Bool) (t : ℕ) → bit 0 t ≡ (ltb t 0 && f t)
-no-number f t = rw (bit-zero t, le-ltb t 0 (omega arith))
-
-pub next-number : (f : ℕ → Bool) (t p : ℕ) {old new y : Bool} → p < 64 → y ≡ f p → new ≡ (old || (y && (eqb p t && ltb p 64)))
-    → old ≡ (ltb t p && f t) → new ≡ (ltb t (p + 1) && f t)
-next-number f t p h passes gains before = gains ∙ rw (before, passes, lt-ltb p 64 h) (go (ltb t p) (eqb p t) refl refl)
-  where
-    go : (x z : Bool) → ltb t p ≡ x → eqb p t ≡ z → ((x && f t) || (f p && (z && true))) ≡ (ltb t (p + 1) && f t)
-    go true true e q = absurd (omega (arith, ltb-true t p e, eqb-true p t q))
-    go true false e q = rw (lt-ltb t (p + 1) (omega (arith, ltb-true t p e)), and-false (f p)) (or-false (f t))
-    go false true e q = rw (lt-ltb t (p + 1) (omega (arith, eqb-true p t q)), and-true (f p)) (ap f (eqb-true p t q))
-    go false false e q =
-        let apart : ¬ (p ≡ t) = eqb-false p t q in
-        rw (le-ltb t (p + 1) (omega (arith, ltb-false t p e)), and-false (f p))
 
 -- A member that passes the test is an answer, and the empty word has none.
 pub found : (a k : ℕ) (f : ℕ → Bool) → k < 64 → bit a k ≡ true → f k ≡ true → some 64 (λ p. bit a p && f p) ≡ true

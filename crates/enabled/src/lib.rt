@@ -6,7 +6,7 @@ ghost use lib.Dec.{leb, ltb, eqb};
 ghost use lib.ListN.{length, getD};
 ghost use Rattle.meaning.specs.Below.{some};
 ghost use Rattle.meaning.specs.Bytes.{bit};
-ghost use Rattle.enabled.specs.Inputs.{Inputs-of, Spread, Half, stops-at, enabled-by};
+ghost use Rattle.enabled.specs.Inputs.{Inputs-of, Outputs-of, Spread, Half, stops-at, enabled-by};
 
 // For each transition the places with an input arc to it: places 0 to 63, and places 64 to 127.
 pub struct Inputs {
@@ -23,13 +23,13 @@ fn spread(words: &mut [u64; 64], row: u64, p: usize)
     while left != 0 {
         let t = sets::lowest(left);
         words[t] = sets::with(words[t], p);
-        left = sets::without(left, t);
+        left = sets::rest(left);
     }
 }
 
 // For each transition the places of 64 rows of the index, from the first row on, that have it.
 fn half(index: &[u64; 768], from: usize) -> [u64; 64]
-    requires { ⌜ from ≤ 256 ⌝ }
+    requires { ⌜ from ≤ 704 ⌝ }
     ensures { λ r. ⌜ Half (now (index .entry)) from r ⌝ }
 {
     let mut words = [0u64; 64];
@@ -48,6 +48,22 @@ pub fn inputs_of(index: &[u64; 768]) -> Inputs
     Inputs {
         low: half(index, 192),
         high: half(index, 256),
+    }
+}
+
+// For each transition the places with a post arc from it.
+pub struct Outputs {
+    pub low: [u64; 64],
+    pub high: [u64; 64],
+}
+
+// Reads the post arcs out of the index, whose rows 320 to 447 hold them place by place.
+pub fn outputs_of(index: &[u64; 768]) -> Outputs
+    ensures { λ x. ⌜ Outputs-of (now (index .entry)) x ⌝ }
+{
+    Outputs {
+        low: half(index, 320),
+        high: half(index, 384),
     }
 }
 
@@ -83,7 +99,7 @@ fn stopped(
         if stops(m[p], w[p][t], s[p][t]) {
             return true;
         }
-        left = sets::without(left, k);
+        left = sets::rest(left);
     }
     false
 }
@@ -132,7 +148,7 @@ pub fn all_enabled(
         let t = sets::lowest(left);
         let passes = enabled(m, w, s, low[t], high[t], t);
         r = with_if(r, t, passes);
-        left = sets::without(left, t);
+        left = sets::rest(left);
     }
     r
 }

@@ -59,7 +59,7 @@ module _ (tb : Table) (ok : Well tb) (higher : List ℕ) (is-above : Above tb hi
     left-is : (g t : ℕ) → t < 64
         → left-enabled m w sorts takers (getD low t 0) (getD high t 0) g t ≡ enabled tb (λ p. s .tokens p - withdrawn tb (bit g) p) t
     left-is g t h =
-        sym (left-same m rest w sorts takers (getD low t 0) (getD high t 0) g t (listed-at 128 _))
+        sym (left-same m rest w sorts takers (getD low t 0) (getD high t 0) g t (λ p l i. listed-at 128 _ p l))
         ∙ enables rest t h
         ∙ enabled-same tb _ _ t
         (λ r l k e.

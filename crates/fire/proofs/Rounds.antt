@@ -12,27 +12,27 @@ use borrow.Author.Tests.{eqb-true, eq-eqb, ne-eqb, lt-ltb}
 use Rattle.meaning.specs.Bytes.{bit}
 use Rattle.meaning.proofs.Bool.{not-both, and-left, and-right}
 use Rattle.meaning.proofs.Below.{some-same, none-intro, none-elim}
+use Rattle.meaning.proofs.Fired.{and-same}
 use Rattle.sets.proofs.Bits.{bit-zero, bit-and, same-set}
-use Rattle.enabled.specs.Inputs.{enabled-by}
-use Rattle.moves.specs.Moves.{moved-at, Moved}
+use Rattle.enabled.specs.Inputs.{in-words, enabled-by}
+use Rattle.moves.specs.Moves.{moved-at}
 use Rattle.fire.specs.declared.Split.{Split}
-use Rattle.fire.specs.Fired.{left-enabled, pays, Ranks, Fires}
+use Rattle.fire.specs.Fired.{left-enabled, Residual, pays, Ranks, Fires}
 use Rattle.fire.specs.Round.{Round, waits-for}
 
--- Whoever the rest of the marking enables is enabled by what the set g leaves.
+-- Whoever the rest of the marking enables is enabled by what the set g leaves: only the places of its words are asked.
 pub left-same : (m rest : List ℕ) (w s : List (List ℕ)) (takers : List ℕ) (low high g t : ℕ)
-    → ((p : ℕ) → p < 128 → getD rest p 0 ≡ getD m p 0 - moved-at g takers w p)
+    → ((p : ℕ) → p < 128 → in-words low high p ≡ true → getD rest p 0 ≡ getD m p 0 - moved-at g takers w p)
     → enabled-by rest w s low high t ≡ left-enabled m w s takers low high g t
 unfolding enabled-by left-enabled
-left-same m rest w s takers low high g t e = ap not (some-same 128 _ _ (λ p h. rw (e p h)))
+left-same m rest w s takers low high g t e = ap not (some-same 128 _ _ (λ p h. and-same (in-words low high p) _ _ (λ i. rw (e p h i))))
 
 -- So where something is taken, the rest answers for t.
-pub rest-says : (m taken rest : List ℕ) (w s : List (List ℕ)) (takers : List ℕ) (low high g t : ℕ) (b : Bool) → t < 64 → ¬ (g ≡ 0)
-    → Moved g takers w taken → ((p : ℕ) → p < 128 → getD rest p 0 ≡ getD m p 0 - getD taken p 0)
+pub rest-says : (m rest : List ℕ) (w s : List (List ℕ)) (takers : List ℕ) (low high g t : ℕ) (b : Bool) → t < 64 → ¬ (g ≡ 0)
+    → Residual (record { low = low; high = high }) m w takers g rest
     → b ≡ (ltb t 64 && enabled-by rest w s low high t) → b ≡ cond (eqb g 0) true (left-enabled m w s takers low high g t)
-rest-says m taken rest w s takers low high g t b h n moved less says =
-    rw (ne-eqb g 0 n)
-    (says ∙ rw (lt-ltb t 64 h) (left-same m rest w s takers low high g t (λ p l. less p l ∙ rw (moved .holds p l))))
+rest-says m rest w s takers low high g t b h n left says =
+    rw (ne-eqb g 0 n) (says ∙ rw (lt-ltb t 64 h) (left-same m rest w s takers low high g t (left .holds)))
 
 -- A walk over the members of `left` has `todo` to come: x has what the base has, and those passed of which f holds.
 abbrev pub Passed : ℕ → ℕ → ℕ → (ℕ → Bool) → ℕ → Type 0

@@ -5,9 +5,11 @@ use mathlib.Core.Path.{_≡_}
 use Prim.Native.Nat.{ℕ, _-_, _<_}
 use lib.Bits.{bitAnd}
 use lib.Dec.{leb, ltb, eqb}
-use lib.ListN.{getD}
+use lib.ListN.{length, getD}
 use Rattle.meaning.specs.Below.{some}
 use Rattle.meaning.specs.Bytes.{bit}
+use Rattle.places.specs.declared.Places.{Places}
+use Rattle.places.specs.Set.{has}
 use Rattle.net.specs.Rows.{cell}
 use Rattle.enabled.specs.Inputs.{in-words}
 use Rattle.moves.specs.Moves.{moved-at}
@@ -20,6 +22,11 @@ left-enabled m w s takers low high g t =
     (λ p.
     in-words low high p
     && cond (eqb (cell s p t) 2) (leb (cell w p t) (getD m p 0 - moved-at g takers w p)) (ltb (getD m p 0 - moved-at g takers w p) (cell w p t))))
+
+-- At each of the places r holds what the set g leaves of the marking m.
+pub record Residual (at : Places) (m : List ℕ) (w : List (List ℕ)) (takers : List ℕ) (g : ℕ) (r : List ℕ) : Type 0 where
+  pub size : length r ≡ 128
+  pub holds : (p : ℕ) → p < 128 → has at p ≡ true → getD r p 0 ≡ getD m p 0 - moved-at g takers w p
 
 -- Nothing taken, a firable transition stays enabled; else it is asked again.
 unfoldable pub pays : List ℕ → List (List ℕ) → List (List ℕ) → List ℕ → List ℕ → List ℕ → ℕ → ℕ → Bool

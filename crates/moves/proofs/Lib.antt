@@ -1,3 +1,4 @@
 -- What the proofs of the functions share, and the laws that carry what a set moves to the meaning.
 pub mod Step
 pub mod Carry
+pub mod Near

@@ -1,14 +1,16 @@
 // What a set of transitions moves at each place: the post arcs' weights, and the tokens that the members of a set move by the arcs of a row.
+use places::Places;
 use records::Rec;
 ghost use mathlib.Core.Bool.{cond, _&&_};
 ghost use mathlib.Core.Path.{_≡_};
-ghost use Prim.Native.Nat.{_≤_};
+ghost use Prim.Native.Nat.{ℕ, _≤_};
 ghost use lib.Dec.{eqb, ltb};
-ghost use lib.ListN.{getD};
-ghost use Rattle.meaning.specs.Below.{sum};
+ghost use lib.ListN.{length, getD};
+ghost use Rattle.meaning.specs.Below.{some, sum};
 ghost use Rattle.meaning.specs.Bytes.{bit};
 ghost use Rattle.meaning.specs.Table.{table};
-ghost use Rattle.moves.specs.Moves.{Posts, Moved};
+ghost use Rattle.places.specs.Set.{has};
+ghost use Rattle.moves.specs.Moves.{Posts, at-words, Moved};
 
 // Is x a post arc, from a transition below 64 to a place below 128?
 fn post(x: Rec) -> bool
@@ -52,7 +54,7 @@ fn wide(x: u16) -> u32
 }
 
 // The weights in a place's row of the members of `both`, added up: the members are taken out one by one, the lowest first.
-fn at_place(both: u64, row: &[u16; 64]) -> u32
+pub fn at_place(both: u64, row: &[u16; 64]) -> u32
     ensures { λ r. ⌜ r ≡ sum 64 (λ t. cond (bit both t) (getD (now (row .entry)) t 0) 0) ⌝ }
 {
     let mut left = both;
@@ -60,21 +62,41 @@ fn at_place(both: u64, row: &[u16; 64]) -> u32
     let mut moved: u32 = 0;
     while t < 64 {
         moved += wide(row[t]);
-        left = sets::without(left, t);
+        left = sets::rest(left);
         t = sets::lowest(left);
     }
     moved
 }
 
-// What the members of `set` move at each place, by the arcs that row p has.
-pub fn moved(set: u64, rows: &[u64; 128], w: &[[u16; 64]; 128]) -> [u32; 128]
-    ensures { λ r. ⌜ Moved set (now (rows .entry)) (now (w .entry)) r ⌝ }
+// At each of the places what the members of `set` move there, by the arcs that its row has; the other places stay as they are.
+pub fn moved(out: &mut [u32; 128], at: Places, set: u64, rows: &[u64; 128], w: &[[u16; 64]; 128])
+    requires { ⌜ length (now out) ≡ 128 ⌝ }
+    ensures { λ _. ⌜ Moved (now (out .entry)) at set (now (rows .entry)) (now (w .entry)) (now (out .exit)) ⌝ }
 {
-    let mut r = [0u32; 128];
-    let mut p = 0;
+    let mut left = at;
+    let mut p = places::first(left);
     while p < 128 {
-        r[p] = at_place(set & rows[p], &w[p]);
-        p += 1;
+        out[p] = at_place(set & rows[p], &w[p]);
+        left = places::rest(left);
+        p = places::first(left);
     }
-    r
+}
+
+// The places of the members of `set`: each transition has its places in two words.
+pub fn touched(set: u64, low: &[u64; 64], high: &[u64; 64]) -> Places
+    ensures { λ x. ⌜ ((p : ℕ) → has x p ≡ some 64 (λ t. bit set t && at-words (now (low .entry)) (now (high .entry)) t p)) ⌝ }
+{
+    let mut all = Places { low: 0, high: 0 };
+    let mut left = set;
+    let mut t = sets::lowest(left);
+    while t < 64 {
+        let its = Places {
+            low: low[t],
+            high: high[t],
+        };
+        all = places::union(all, its);
+        left = sets::rest(left);
+        t = sets::lowest(left);
+    }
+    all
 }

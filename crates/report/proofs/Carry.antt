@@ -1,5 +1,5 @@
 -- From the index to the table: an action or function is in the row of each place or transition that carries it, so the union of rows is what the table says.
-use mathlib.Core.Bool.{Bool, true, _&&_, Bool·beq}
+use mathlib.Core.Bool.{Bool, true, false, not, _&&_, and-false, Bool·beq}
 use mathlib.Core.List.{List, _++_}
 use mathlib.Core.Path.{_≡_, refl, sym, ap, _∙_}
 use Prim.Native.Nat.{ℕ, _+_, _^_, _<_}
@@ -16,7 +16,9 @@ use Rattle.meaning.proofs.Bool.{and-left, and-right, and-true, same-test}
 use Rattle.meaning.proofs.Below.{some-intro, some-elim, some-same}
 use Rattle.meaning.proofs.Shows.{Shows}
 use Rattle.meaning.proofs.Faults.{faultless}
-use Rattle.sets.proofs.Bits.{bits-bit, bits-low, same-set}
+use Rattle.sets.proofs.Bits.{bit-zero, bits-bit, bits-low, same-set}
+use Rattle.places.specs.declared.Places.{Places}
+use Rattle.places.specs.Set.{has}
 use Rattle.table.specs.Index.{row}
 use Rattle.table.proofs.Carry.{Clean}
 use Rattle.table.proofs.Rows.{base, width, kind-of, spot, row-test, within, class-is}
@@ -87,6 +89,16 @@ module _ {tb : Table} {index : List ℕ} (clean : Clean tb index) where
   pub actions-are : (m : ℕ → ℕ) (k : ℕ) → k < 64 → some 128 (λ p. ltb 0 (m p) && bit (getD index (576 + p) 0) k) ≡ active tb m k
   unfolding active every
   actions-are m k h = union-is 6 6 k (λ p. ltb 0 (m p)) (omega arith) h refl
+
+  -- Only places that have actions need asking.
+  pub acting-same : (at : Places) → ((p : ℕ) → p < 128 → has at p ≡ not (eqb (getD index (576 + p) 0) 0)) → (m : ℕ → ℕ) (k : ℕ)
+      → some 128 (λ p. has at p && (ltb 0 (m p) && bit (getD index (576 + p) 0) k)) ≡ some 128 (λ p. ltb 0 (m p) && bit (getD index (576 + p) 0) k)
+  acting-same at filled m k = some-same 128 _ _ (λ p h. rw (filled p h) (go p (eqb (getD index (576 + p) 0) 0) refl))
+    where
+      go : (p : ℕ) (b : Bool) → eqb (getD index (576 + p) 0) 0 ≡ b
+          → (not b && (ltb 0 (m p) && bit (getD index (576 + p) 0) k)) ≡ (ltb 0 (m p) && bit (getD index (576 + p) 0) k)
+      go p true e = rw (eqb-true (getD index (576 + p) 0) 0 e, bit-zero k) (sym (and-false (ltb 0 (m p))))
+      go p false e = refl
 
   -- The functions of the transitions that fired are the executed ones.
   pub functions-are : (F : ℕ → Bool) (k : ℕ) → k < 64 → some 64 (λ t. F t && bit (getD index (704 + t) 0) k) ≡ executed tb F k

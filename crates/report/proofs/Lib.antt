@@ -1,4 +1,3 @@
--- What a loop over rows has gathered, what a loop over bytes has stored, and what the report says of the table.
-pub mod Gathered
+-- What a loop over bytes has stored, and what the report says of the table.
 pub mod Stored
 pub mod Carry

@@ -1,39 +1,69 @@
 // The report of a cycle: three sets of 64 numbers, the transitions that fired, the active actions and the executed functions.
-ghost use mathlib.Core.Bool.{_&&_};
+use places::Places;
+ghost use mathlib.Core.Bool.{not, _&&_};
 ghost use mathlib.Core.List.{_++_};
 ghost use mathlib.Core.Path.{_≡_};
 ghost use Prim.Native.Nat.{ℕ, _+_, _<_, _≤_};
-ghost use lib.Dec.{ltb};
+ghost use lib.Dec.{eqb, ltb};
 ghost use lib.ListN.{length, getD, take, drop};
 ghost use Rattle.meaning.specs.Below.{some};
 ghost use Rattle.meaning.specs.Bytes.{bit, bytes};
+ghost use Rattle.places.specs.Set.{has};
 
-// The actions of the places with a token: row 576 + p of the index holds those of place p.
-pub fn actions(m: &[u32; 128], index: &[u64; 768]) -> u64
-    ensures { λ r. ⌜ ((k : ℕ) → k < 64 → bit r k ≡ some 128 (λ p. ltb 0 (getD (now (m .entry)) p 0) && bit (getD (now (index .entry)) (576 + p) 0) k)) ⌝ }
+// Which of 64 rows of the index, from the first on, are not empty.
+fn filled(index: &[u64; 768], from: usize) -> u64
+    requires { ⌜ from ≤ 704 ⌝ }
+    ensures { λ r. ⌜ ((i : ℕ) → i < 64 → bit r i ≡ not (eqb (getD (now (index .entry)) (from + i) 0) 0)) ⌝ }
+{
+    let mut r = 0u64;
+    let mut i = 0;
+    while i < 64 {
+        if index[from + i] != 0 {
+            r = sets::with(r, i);
+        }
+        i += 1;
+    }
+    r
+}
+
+// The places that have actions.
+pub fn acting(index: &[u64; 768]) -> Places
+    ensures { λ x. ⌜ ((p : ℕ) → p < 128 → has x p ≡ not (eqb (getD (now (index .entry)) (576 + p) 0) 0)) ⌝ }
+{
+    Places {
+        low: filled(index, 576),
+        high: filled(index, 640),
+    }
+}
+
+// The actions of those of the places that have a token: row 576 + p of the index holds those of place p.
+pub fn actions(at: Places, m: &[u32; 128], index: &[u64; 768]) -> u64
+    ensures { λ r. ⌜ ((k : ℕ) → bit r k ≡ some 128 (λ p. has at p && (ltb 0 (getD (now (m .entry)) p 0) && bit (getD (now (index .entry)) (576 + p) 0) k))) ⌝ }
 {
     let mut all = 0u64;
-    let mut p = 0;
+    let mut left = at;
+    let mut p = places::first(left);
     while p < 128 {
         if 0 < m[p] {
             all = sets::union(all, index[576 + p]);
         }
-        p += 1;
+        left = places::rest(left);
+        p = places::first(left);
     }
     all
 }
 
 // The functions of the transitions that fired: row 704 + t of the index holds those of transition t.
 pub fn functions(fired: u64, index: &[u64; 768]) -> u64
-    ensures { λ r. ⌜ ((k : ℕ) → k < 64 → bit r k ≡ some 64 (λ t. bit fired t && bit (getD (now (index .entry)) (704 + t) 0) k)) ⌝ }
+    ensures { λ r. ⌜ ((k : ℕ) → bit r k ≡ some 64 (λ t. bit fired t && bit (getD (now (index .entry)) (704 + t) 0) k)) ⌝ }
 {
     let mut all = 0u64;
-    let mut t = 0;
+    let mut left = fired;
+    let mut t = sets::lowest(left);
     while t < 64 {
-        if sets::has(fired, t) {
-            all = sets::union(all, index[704 + t]);
-        }
-        t += 1;
+        all = sets::union(all, index[704 + t]);
+        left = sets::rest(left);
+        t = sets::lowest(left);
     }
     all
 }

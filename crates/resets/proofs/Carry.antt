@@ -1,18 +1,23 @@
 -- From the arrays to the table: a transition is starved by the cells of its input arcs exactly if it is by the table.
-use mathlib.Core.Bool.{Bool, true, false, _&&_, _||_, Bool·beq}
+use mathlib.Core.Bool.{Bool, true, false, cond, _&&_, _||_, and-true, Bool·beq}
 use mathlib.Core.List.{List}
 use mathlib.Core.Path.{_≡_, refl, sym, ap, _∙_}
 use mathlib.Core.Logic.{⊎-elim}
 use Prim.Native.Nat.{ℕ, _-_, _≤_, _<_}
 use native.Mathlib.Omega.{arith}
+use lib.Bits.{bitAnd}
 use lib.Dec.{ltb, eqb}
 use lib.ListN.{getD}
 use borrow.Author.Tests.{ltb-true, eqb-true, lt-ltb, eq-eqb, ne-eqb}
 use Rattle.meaning.specs.Below.{some, every}
+use Rattle.meaning.specs.Bytes.{bit}
 use Rattle.meaning.specs.Table.{Table, is, basic, test}
 use Rattle.meaning.specs.Cycle.{withdrawn, starved}
 use Rattle.meaning.proofs.Bool.{and-left, and-right, or-cases}
 use Rattle.meaning.proofs.Below.{every-elim, some-same}
+use Rattle.sets.proofs.Bits.{bit-and}
+use Rattle.places.specs.declared.Places.{Places}
+use Rattle.places.specs.Set.{has}
 use Rattle.net.specs.Rows.{Weights, Sorts, cell}
 use Rattle.table.proofs.Carry.{Clean}
 use Rattle.table.proofs.Rows.{beq-true}
@@ -27,6 +32,33 @@ use Rattle.resets.proofs.Either.{grouped}
 low-sort : (k : ℕ) → k < 3 → ltb k 2 ≡ (eqb k 0 || eqb k 1)
 unfolding every
 low-sort k h = beq-true _ _ (every-elim 3 (λ k. Bool·beq (ltb k 2) (eqb k 0 || eqb k 1)) refl k h)
+
+-- Places from which nothing is taken starve nobody, so the others are enough.
+pub starved-near : (at : Places) (m taken : List ℕ) (w s : List (List ℕ)) (low high t : ℕ)
+    → ((p : ℕ) → p < 128 → has at p ≡ false → getD taken p 0 ≡ 0)
+    → starved-by m taken w s (bitAnd low (at .low)) (bitAnd high (at .high)) t ≡ starved-by m taken w s low high t
+unfolding starved-by
+starved-near at m taken w s low high t none = some-same 128 _ _ (λ p h. go p h (has at p) refl)
+  where
+    both : (p : ℕ) (b : Bool) → cond b (bit (bitAnd low (at .low)) p) (bit (bitAnd high (at .high)) (p - 64))
+        ≡ (cond b (bit low p) (bit high (p - 64)) && cond b (bit (at .low) p) (bit (at .high) (p - 64)))
+    both p true = bit-and low (at .low) p
+    both p false = bit-and high (at .high) (p - 64)
+
+    dead : (a b c : Bool) → (a && b && false && c) ≡ false
+    dead true true c = refl
+    dead true false c = refl
+    dead false b c = refl
+
+    starves : Bool → ℕ → Bool
+    starves x p = x && ltb (cell s p t) 2 && ltb 0 (getD taken p 0) && ltb (getD m p 0 - getD taken p 0) (cell w p t)
+
+    go : (p : ℕ) → p < 128 → (b : Bool) → has at p ≡ b
+        → starves (in-words (bitAnd low (at .low)) (bitAnd high (at .high)) p) p ≡ starves (in-words low high p) p
+    go p h true e =
+        let same : in-words (bitAnd low (at .low)) (bitAnd high (at .high)) p ≡ in-words low high p = both p (ltb p 64) ∙ rw e (and-true _) in
+        ap (λ (x : Bool). starves x p) same
+    go p h false e = rw (none p h e) (dead (in-words (bitAnd low (at .low)) (bitAnd high (at .high)) p) (ltb (cell s p t) 2) (ltb (getD m p 0 - 0) (cell w p t)) ∙ sym (dead (in-words low high p) (ltb (cell s p t) 2) (ltb (getD m p 0 - 0) (cell w p t))))
 
 module _ (tb : Table) (w s : List (List ℕ)) (index : List ℕ) (x : Inputs) (gw : Weights tb w) (gs : Sorts tb s) (clean : Clean tb index)
     (gx : Inputs-of index x)

@@ -1,4 +1,5 @@
 // Who gets a reset order: the timed transitions that fired or were starved.
+use places::Places;
 ghost use mathlib.Core.Bool.{not, _&&_, _||_};
 ghost use mathlib.Core.Path.{_≡_};
 ghost use Prim.Native.Nat.{ℕ, _+_, _-_, _≤_, _<_};
@@ -51,7 +52,7 @@ fn starved_from(
         if starves(m[p], taken[p], w[p][t], s[p][t]) {
             return true;
         }
-        left = sets::without(left, k);
+        left = sets::rest(left);
     }
     false
 }
@@ -95,8 +96,9 @@ fn stirred(
     starved(m, taken, w, s, low, high, t)
 }
 
-// The transitions that get a reset order: each that is timed, and fired or is starved.
+// The transitions that get a reset order: each that is timed, and fired or is starved by one of the places.
 pub fn resets(
+    at: Places,
     timed: u64,
     fired: u64,
     m: &[u32; 128],
@@ -106,15 +108,15 @@ pub fn resets(
     low: &[u64; 64],
     high: &[u64; 64],
 ) -> u64
-    ensures { λ r. ⌜ ((t : ℕ) → bit r t ≡ (ltb t 64 && reset-by timed fired (now (m .entry)) (now (taken .entry)) (now (w .entry)) (now (s .entry)) (now (low .entry)) (now (high .entry)) t)) ⌝ }
+    ensures { λ r. ⌜ ((t : ℕ) → bit r t ≡ (ltb t 64 && reset-by at timed fired (now (m .entry)) (now (taken .entry)) (now (w .entry)) (now (s .entry)) (now (low .entry)) (now (high .entry)) t)) ⌝ }
 {
     let mut r = 0u64;
     let mut left = timed;
     while left != 0 {
         let t = sets::lowest(left);
-        let passes = stirred(fired, m, taken, w, s, low[t], high[t], t);
+        let passes = stirred(fired, m, taken, w, s, low[t] & at.low, high[t] & at.high, t);
         r = enabled::with_if(r, t, passes);
-        left = sets::without(left, t);
+        left = sets::rest(left);
     }
     r
 }

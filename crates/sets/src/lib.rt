@@ -47,3 +47,10 @@ pub fn lowest(s: u64) -> usize
 {
     u64::trailing_zeros(s) as usize
 }
+
+// s less its lowest number.
+pub fn rest(s: u64) -> u64
+    ensures { λ r. ⌜ ((j : ℕ) → bit r j ≡ (bit s j && not (eqb (first 64 (bit s)) j))) ⌝ }
+{
+    if s == 0 { 0 } else { s & (s - 1) }
+}

@@ -1,9 +1,14 @@
--- `course` meets its contract: the rows are those of the table, the cycles leave the trace, and the image of its last state is written.
+-- `course` meets its contract: with no words nothing is done; else the rows are those of the table, the cycles leave the trace, and the image of its
+-- last state is written.
 use mathlib.Core.Path.{_∙_}
-use borrow.Author.Needs.{needs}
 use Rattle.course.proofs.Rows.{net-of}
+use Rattle.course.proofs.Turns.{no-words}
+use borrow.Author.Needs.{needs}
 use Rattle.course.proofs.course.Statement.{statement}
 use Rattle.course.proofs.course.Tie as tie
+
+returns : tie.Need-returns
+returns c = no-words _ _ _ _ (c .before .before .before .before .before .pre .0 .sound) (c .before .before .before .before .before .pre .1) (c .if1 .taken)
 
 turn-requires : tie.Need-turn-requires
 turn-requires c κs = search needs
@@ -11,27 +16,31 @@ turn-requires c κs = search needs
 inputs-of-requires : tie.Need-inputs-of-requires
 inputs-of-requires c κs = search needs
 
+outputs-of-requires : tie.Need-outputs-of-requires
+outputs-of-requires c κs = search needs
+
 known-requires : tie.Need-known-requires
 known-requires c κs = search needs
 
 timed-requires : tie.Need-timed-requires
 timed-requires c κs = search needs
 
+acting-requires : tie.Need-acting-requires
+acting-requires c κs = search needs
+
 cycles-requires : tie.Need-cycles-requires
 cycles-requires c κs =
-    let after-timed = c .before .before .before .before .before in
-    let after-turn = after-timed .before .before .before .before .before in
-    let given = after-turn .before .before .before .before .before .pre in (
-      net-of (given .0) _ (after-timed .before .known .ensures) _ (after-timed .timed .ensures) _ (after-turn .turn .ensures) _
-          (after-timed .before .before .before .before .inputs-of .ensures),
+    let acting = c .before .before .before .before .before .before .before .before .before .before .before .before .before in
+    let given = acting .before .before .before .before .before .before .before .before .before .before .before .before .before .before .before .pre in (
+      net-of (given .0) _ (acting .before .before .known .ensures) _ (acting .before .timed .ensures) _ (acting .before .before .before .before .before .before .before .before .before .turn .ensures) _
+          (acting .before .before .before .before .before .before .before .before .inputs-of .ensures) _ (acting .before .before .before .before .before .outputs-of .ensures) _ (acting .acting .ensures),
       given .1,
     )
 
 keep-requires : tie.Need-keep-requires
 keep-requires c κs =
     let after-cycles = c .before .before .before in
-    let given = after-cycles .before .before .before .before .before .before .before .before .before .before .before .before .before .before .before .before .pre in
-    (given .1 .long, after-cycles .cycles .ensures .small)
+    (after-cycles .before .before .before .before .before .before .before .before .before .before .before .before .before .before .before .before .before .before .before .before .before .before .before .before .before .before .before .before .before .pre .1 .long, after-cycles .cycles .ensures .small)
 
 same-length : tie.Need-same-length
 same-length c = search needs
@@ -39,8 +48,8 @@ same-length c = search needs
 same-length-2 : tie.Need-same-length-2
 same-length-2 c = search needs
 
-returns : tie.Need-returns
-returns c =
+returns-2 : tie.Need-returns-2
+returns-2 c =
     let halts = c .before .before .before .before .before .before .cycles .ensures in
     record { answer-is = halts .answer-is; image-is = c .before .before .keep .ensures ∙ halts .image-is; report-is = halts .report-is }
 
@@ -48,12 +57,15 @@ pub course-spec : {M : Type 1} → statement M
 course-spec =
     tie.close
     (tie.spec
+    returns
     turn-requires
     inputs-of-requires
+    outputs-of-requires
     known-requires
     timed-requires
+    acting-requires
     cycles-requires
     keep-requires
     same-length
     same-length-2
-    returns)
+    returns-2)

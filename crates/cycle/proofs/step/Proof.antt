@@ -1,49 +1,23 @@
 -- `step` meets its contract: each part says of the rows what `Whole` carries to the table.
-use borrow.Author.Needs.{needs}
 use native.Mathlib.Omega.{arith}
-use Rattle.cycle.proofs.Whole.{ranks, put-low, stepped}
+use Prim.Native.Nat.{ℕ, _^_, _≤_, _<_}
+use lib.ListN.{getD, length-replicate}
+use Rattle.cycle.proofs.Whole.{ranks, put-fits, bursts, stepped}
+use borrow.Author.Needs.{needs}
 use Rattle.cycle.proofs.step.Statement.{statement}
 use Rattle.cycle.proofs.step.Tie as tie
-use Rattle.cycle.proofs.step.Reads as reads
-use Rattle.cycle.proofs.step.Lts as lts
-use Rattle.edges.proofs.fall.Reads as fall-reads
-use Rattle.edges.proofs.firable.Reads as firable-reads
-use Rattle.enabled.proofs.all_enabled.Reads as all-enabled-reads
-use Rattle.fire.proofs.fired.Reads as fired-reads
-use Rattle.moves.proofs.moved.Reads as moved-reads
-use Rattle.report.proofs.actions.Reads as actions-reads
-use Rattle.report.proofs.functions.Reads as functions-reads
-use Rattle.resets.proofs.resets.Reads as resets-reads
-use Rattle.settle.proofs.settle.Reads as settle-reads
 
 all-enabled-requires : tie.Need-all-enabled-requires
 all-enabled-requires c κs = search needs
 
 fall-requires : tie.Need-fall-requires
-fall-requires c κs = search needs
+fall-requires c κs = c .before .before .before .before .before .pre .1 .1 .transitions
 
 firable-requires : tie.Need-firable-requires
 firable-requires c κs = search needs
 
 fired-requires : tie.Need-fired-requires
-fired-requires c κs = ranks _ _ _ _ _ _ _ _ _ _ _ _ _ _ _ (c .before .before .before .before .before .before .before .before .before .before .pre .0)
-
-moved-requires : tie.Need-moved-requires
-moved-requires c κs = search needs
-
-moved-requires-2 : tie.Need-moved-requires-2
-moved-requires-2 c κs = search needs
-
-settle-requires : tie.Need-settle-requires
-settle-requires c κs =
-    let after-moved2 = c .before .before .before in
-    let start = after-moved2 .before .before .before .before .before .before .before .before .before .before .before .before .before in (
-      start .pre .1 .tokens,
-      λ p l. rw (after-moved2 .moved2 .ensures .holds p l) (put-low _ _ _ _ _ _ _ _ _ _ _ _ _ _ _ (start .pre .0) _ p l),
-    )
-
-resets-requires : tie.Need-resets-requires
-resets-requires c κs = search needs
+fired-requires c κs = ranks _ _ _ _ _ _ _ _ _ _ _ _ _ _ _ _ _ _ (c .before .before .before .before .before .before .before .before .before .pre .0)
 
 actions-requires : tie.Need-actions-requires
 actions-requires c κs = search needs
@@ -51,16 +25,65 @@ actions-requires c κs = search needs
 functions-requires : tie.Need-functions-requires
 functions-requires c κs = search needs
 
+touched-requires : tie.Need-touched-requires
+touched-requires c κs = search needs
+
+touched-requires-2 : tie.Need-touched-requires-2
+touched-requires-2 c κs = search needs
+
+union-requires : tie.Need-union-requires
+union-requires c κs = search needs
+
+moved-requires : tie.Need-moved-requires
+moved-requires c κs = length-replicate {A = ℕ} 128 0
+
+moved-requires-2 : tie.Need-moved-requires-2
+moved-requires-2 c κs = length-replicate {A = ℕ} 128 0
+
+-- Each set is one word.
+fired-low : (c : tie.After-fired) → c .fired .result < 2 ^ 64
+fired-low c = omega arith
+
+actions-low : (c : tie.After-actions) → c .actions .result < 2 ^ 64
+actions-low c = omega arith
+
+functions-low : (c : tie.After-functions) → c .functions .result < 2 ^ 64
+functions-low c = omega arith
+
+-- What is put fits.
+fits : (c : tie.After-moved2) → (p : ℕ) → p < 128 → getD (c .moved2 .last .0) p 0 ≤ 4194240
+fits c =
+    let start = c .before .before .before .before .before .before .before .before .before .before .before .before .before .before .before .before .before .before .before .before in
+    put-fits _ _ _ _ _ _ _ _ _ _ _ _ _ _ _ _ _ _ (start .pre .0) (record { tokens = start .args .tokens .now; counters = start .args .counters .now; orders = start .args .orders }) _ (c .before .before .before .before .before .before .before .before .before .before .before .before .before .before .before .before .before .all-enabled .ensures) _
+    (c .before .before .before .before .before .before .before .before .before .before .before .before .before .before .fall .ensures) _ _ (c .before .before .before .before .before .before .before .before .before .before .before .before .firable .ensures) _ (fired-low (c .before .before .before .before .before .before .before .before .before .before)) (c .before .before .before .before .before .before .before .before .before .before .fired .ensures) _ _ _ (c .before .before .before .before .before .before .touched .ensures) (c .before .before .before .before .before .touched2 .ensures) (c .before .before .before .before .union .ensures) _ _
+    (c .before .before .moved .ensures) (c .moved2 .ensures)
+
+first-over-requires : tie.Need-first-over-requires
+first-over-requires c κs = (c .before .before .before .before .before .before .before .before .before .before .before .before .before .before .before .before .before .before .before .before .before .before .before .pre .1 .0 .tokens, fits (c .before .before .before))
+
 returns : tie.Need-returns
 returns c =
-    let after-settle = c .before .before .before .before .before .before .before in
-    let after-moved = after-settle .before .before .before .before .before in
-    let after-all-enabled = after-moved .before .before .before .before .before .before .before in
-    let start = after-all-enabled .before .before .before .before .before in
-    stepped _ _ _ _ _ _ _ _ _ _ _ _ _ _ _ (start .pre .0) (start .args .h) _ (after-all-enabled .all-enabled .ensures) _
-    (after-moved .before .before .before .before .before .fall .ensures) _ _ (after-moved .before .before .before .firable .ensures) _ (omega arith) (after-moved .before .fired .ensures) _ _
-    (after-moved .moved .ensures) (after-settle .before .before .before .before .moved2 .ensures) _ (after-settle .settle .ensures) _ (c .before .before .before .before .resets .ensures) _ _
-    (c .before .before .actions .ensures) (c .before .functions .ensures) (omega arith) (omega arith)
+    let m = c .before .before .before .before .before in
+    let start = m .before .before .before .before .before .before .before .before .before .before .before .before .before .before .before .before .before .before .before .before in
+    bursts _ _ _ _ _ _ _ _ _ _ _ _ _ _ _ _ _ _ (start .pre .0) (record { tokens = start .args .tokens .now; counters = start .args .counters .now; orders = start .args .orders }) _ (m .before .before .before .before .before .before .before .before .before .before .before .before .before .before .before .before .before .all-enabled .ensures) _
+    (m .before .before .before .before .before .before .before .before .before .before .before .before .before .before .fall .ensures) _ _ (m .before .before .before .before .before .before .before .before .before .before .before .before .firable .ensures) _ (fired-low (m .before .before .before .before .before .before .before .before .before .before)) (m .before .before .before .before .before .before .before .before .before .before .fired .ensures) _ _ _ (m .before .before .before .before .before .before .touched .ensures) (m .before .before .before .before .before .touched2 .ensures) (m .before .before .before .before .union .ensures) _ _
+    (m .before .before .moved .ensures) (m .moved2 .ensures) (start .pre .1 .0) _ (c .before .first-over .ensures) _ _ (m .before .before .before .before .before .before .before .before .actions .ensures) (m .before .before .before .before .before .before .before .functions .ensures) (actions-low (m .before .before .before .before .before .before .before .before)) (functions-low (m .before .before .before .before .before .before .before))
+    (c .if1 .taken) (start .pre .1 .1)
+
+resets-requires : tie.Need-resets-requires
+resets-requires c κs = search needs
+
+settle-requires : tie.Need-settle-requires
+settle-requires c κs = (c .before .before .before .before .before .before .before .before .before .before .before .before .before .before .before .before .before .before .before .before .before .before .before .before .before .before .before .before .before .before .before .pre .1 .1 .places, (c .before .before .before .before .before .before .before .before .before .before .before .before .before .before .before .before .before .before .before .before .before .before .before .before .before .before .before .before .before .before .before .pre .1 .0 .tokens, fits (c .before .before .before .before .before .before .before .before .before .before .before)))
+
+returns-2 : tie.Need-returns-2
+returns-2 c =
+    let m = c .before .before .before .before .before .before .before .before .before .before .before .before in
+    let start = m .before .before .before .before .before .before .before .before .before .before .before .before .before .before .before .before .before .before .before .before in
+    stepped _ _ _ _ _ _ _ _ _ _ _ _ _ _ _ _ _ _ (start .pre .0) (record { tokens = start .args .tokens .now; counters = start .args .counters .now; orders = start .args .orders }) _ (m .before .before .before .before .before .before .before .before .before .before .before .before .before .before .before .before .before .all-enabled .ensures) _
+    (m .before .before .before .before .before .before .before .before .before .before .before .before .before .before .fall .ensures) _ _ (m .before .before .before .before .before .before .before .before .before .before .before .before .firable .ensures) _ (fired-low (m .before .before .before .before .before .before .before .before .before .before)) (m .before .before .before .before .before .before .before .before .before .before .fired .ensures) _ _ _ (m .before .before .before .before .before .before .touched .ensures) (m .before .before .before .before .before .touched2 .ensures) (m .before .before .before .before .union .ensures) _ _
+    (m .before .before .moved .ensures) (m .moved2 .ensures) (start .pre .1 .0) _ (c .before .before .before .before .before .before .before .before .first-over .ensures) _ _ (m .before .before .before .before .before .before .before .before .actions .ensures) (m .before .before .before .before .before .before .before .functions .ensures) (actions-low (m .before .before .before .before .before .before .before .before)) (functions-low (m .before .before .before .before .before .before .before))
+    (c .before .before .before .before .before .before .before .if1 .left) _ (c .before .before .before .before .resets .ensures) _ (c .settle .ensures)
 
 pub step-spec : {M : Type 1} → statement M
 step-spec =
@@ -70,10 +93,15 @@ step-spec =
     fall-requires
     firable-requires
     fired-requires
-    moved-requires
-    moved-requires-2
-    settle-requires
-    resets-requires
     actions-requires
     functions-requires
-    returns)
+    touched-requires
+    touched-requires-2
+    union-requires
+    moved-requires
+    moved-requires-2
+    first-over-requires
+    returns
+    resets-requires
+    settle-requires
+    returns-2)

@@ -1,44 +1,28 @@
--- `fall` meets its contract: each turn moves one more counter, or leaves that of an untimed transition.
-use mathlib.Core.Bool.{Bool}
-use mathlib.Core.Logic.{⊎-elim}
-use mathlib.Core.Path.{_≡_, refl}
-use Prim.Native.Nat.{ℕ, _-_, _≤_}
+-- `fall` meets its contract: the walk moves the counter of each timed transition, one after the other.
+use mathlib.Core.Path.{_≡_, _∙_}
+use Prim.Native.Nat.{ℕ, _-_, _<_}
 use native.Mathlib.Omega.{arith}
+use lib.ListN.{length, getD, length-set}
+use Rattle.meaning.specs.Bytes.{bit}
+use Rattle.sets.proofs.Walk.{Walked, Written, begins, none-written, all-written, unwritten, up, on, one-written}
+use Rattle.edges.specs.Edges.{fallen-at}
 use borrow.Author.Needs.{needs}
-use borrow.Author.Tests.{eq-eqb}
-use Rattle.edges.specs.Edges.{fallen, fallen-at}
-use Rattle.edges.proofs.Step.{Moved, moved-none, moved-more}
 use Rattle.edges.proofs.fall.Statement.{statement}
 use Rattle.edges.proofs.fall.Tie as tie
 
--- The counter of an untimed transition stays.
-untimed : (sort a b : ℕ) (on order : Bool) (c : ℕ) → sort ≡ 0 → c ≡ fallen sort a b on order c
-unfolding fallen
-untimed sort a b on order c e = rw (eq-eqb sort 0 e)
-
 abbrev Inv-loop : tie.InvT-loop
-Inv-loop counters orders on x next₀ t₀ next t = (t ≤ 64) × Moved t (fallen-at x counters orders on) next
+Inv-loop counters₀ timed orders on sorts a b left₀ t₀ counters left t =
+    (length counters ≡ 64) × Walked 64 (bit timed) (bit left) t
+    × Written 64 (bit timed) (fallen-at (record { sorts = sorts; a = a; b = b }) counters₀ orders on) (λ q. getD counters₀ q 0) counters t
 
 abbrev μ-loop : tie.MeasureT-loop
-μ-loop counters orders on x next₀ t₀ next t = 64 - t
+μ-loop counters₀ timed orders on sorts a b left₀ t₀ counters left t = 64 - t
+
+lowest-requires : tie.Need-lowest-requires Inv-loop μ-loop
+lowest-requires c κs = search needs
 
 loop-holds : tie.Need-loop-holds Inv-loop μ-loop
-loop-holds c = (omega arith, moved-none _ _ refl)
-
-element-copy-out-if1 : tie.Need-element-copy-out-if1 Inv-loop μ-loop
-element-copy-out-if1 c = search needs
-
-mul-next : tie.Need-mul-next Inv-loop μ-loop
-mul-next c = search needs
-
-element-copy-out-next : tie.Need-element-copy-out-next Inv-loop μ-loop
-element-copy-out-next c = search needs
-
-mul-next-2 : tie.Need-mul-next-2 Inv-loop μ-loop
-mul-next-2 c = search needs
-
-array-write-next : tie.Need-array-write-next Inv-loop μ-loop
-array-write-next c = search needs
+loop-holds c = (c .before .pre, begins 64 _ _ (c .lowest .ensures), none-written 64 _ _ _ _ (c .lowest .ensures))
 
 element-copy-out-fallen : tie.Need-element-copy-out-fallen Inv-loop μ-loop
 element-copy-out-fallen c = search needs
@@ -70,30 +54,41 @@ element-copy-out-fallen-4 c = search needs
 fallen-requires : tie.Need-fallen-requires Inv-loop μ-loop
 fallen-requires c κs = search needs
 
-mul-next-3 : tie.Need-mul-next-3 Inv-loop μ-loop
-mul-next-3 c = search needs
+mul-counters : tie.Need-mul-counters Inv-loop μ-loop
+mul-counters c = search needs
 
-array-write-next-2 : tie.Need-array-write-next-2 Inv-loop μ-loop
-array-write-next-2 c = search needs
+element-write-counters : tie.Need-element-write-counters Inv-loop μ-loop
+element-write-counters c = search needs
 
-add-t : tie.Need-add-t Inv-loop μ-loop
-add-t c = search needs
+rest-requires : tie.Need-rest-requires Inv-loop μ-loop
+rest-requires c κs = search needs
+
+lowest-requires-2 : tie.Need-lowest-requires-2 Inv-loop μ-loop
+lowest-requires-2 c κs = search needs
 
 loop-less : tie.Need-loop-less Inv-loop μ-loop
-loop-less c = search needs
+loop-less c =
+    let in-loop = c .before .before .before .before .before .before .before .before .before in
+    omega (arith, up 64 _ _ _ (in-loop .before .loop .inv .1) (in-loop .loop-test .taken) _ _ (λ q h. c .before .rest .ensures q) (c .lowest2 .ensures))
 
 loop-again : tie.Need-loop-again Inv-loop μ-loop
 loop-again c =
-    let at = c .before .before .before in
-    let a = at .before .args in
-    let move = moved-more (at .loop .t) (fallen-at (a .t4) (a .counters .now) (a .orders) (a .on)) (at .loop .next) (at .loop .inv .1) (omega arith) in (
-      omega arith,
-      ⊎-elim (λ y. rw (y .2) (move _ (untimed _ _ _ _ _ _ (y .0 .taken)))) (λ y. rw (y .8) (move _ (rw (y .7 .ensures, y .4 .ensures, y .5 .ensures))))
-          (c .if1 .came),
+    let in-loop = c .before .before .before .before .before .before .before .before .before in
+    let at = in-loop .before .loop in
+    let test = in-loop .loop-test .taken in
+    let put = c .before .before .fallen in
+    let old = unwritten 64 _ _ _ _ _ test (at .inv .2) in (
+      length-set (at .counters) (at .t) (put .result) ∙ at .inv .0,
+      on 64 _ _ _ (at .inv .1) test _ _ (λ q h. c .before .rest .ensures q) (c .lowest2 .ensures),
+      one-written 64 _ _ _ (at .inv .1) test _ _ (λ q h. c .before .rest .ensures q) (c .lowest2 .ensures) _ _ (at .counters) (put .result)
+          (omega (arith, at .inv .0)) (at .inv .2)
+          (put .ensures ∙ rw (c .before .before .before .before .before .has .ensures, c .before .before .before .before .has2 .ensures, old)),
     )
 
 returns : tie.Need-returns Inv-loop μ-loop
-returns c = λ t h. c .before .loop .inv .1 .below t (omega arith)
+returns c =
+    let at = c .before .loop in
+    record { size = at .inv .0; holds = all-written 64 _ _ _ _ _ (c .loop-test .left) (at .inv .2) }
 
 pub fall-spec : {M : Type 1} → statement M
 fall-spec =
@@ -101,12 +96,8 @@ fall-spec =
     (tie.spec
     Inv-loop
     μ-loop
+    lowest-requires
     loop-holds
-    element-copy-out-if1
-    mul-next
-    element-copy-out-next
-    mul-next-2
-    array-write-next
     element-copy-out-fallen
     mul-fallen
     element-copy-out-fallen-2
@@ -117,9 +108,10 @@ fall-spec =
     mul-fallen-3
     element-copy-out-fallen-4
     fallen-requires
-    mul-next-3
-    array-write-next-2
-    add-t
+    mul-counters
+    element-write-counters
+    rest-requires
+    lowest-requires-2
     loop-less
     loop-again
     returns)

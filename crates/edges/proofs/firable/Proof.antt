@@ -20,10 +20,11 @@ on-only : (x : Intervals) (counters truths falses : List ℕ) (on word j : ℕ) 
 on-only x counters truths falses on word j z = rw z
 
 abbrev Inv-loop : tie.InvT-loop
-Inv-loop on counters truths falses word x left₀ able₀ t₀ left able t = Walked (firable-at x counters on truths falses word) on left able t
+Inv-loop on counters sorts a b truths falses word left₀ able₀ t₀ left able t =
+    Walked (firable-at (record { sorts = sorts; a = a; b = b }) counters on truths falses word) on left able t
 
 abbrev μ-loop : tie.MeasureT-loop
-μ-loop on counters truths falses word x left₀ able₀ t₀ left able t = 64 - t
+μ-loop on counters sorts a b truths falses word left₀ able₀ t₀ left able t = 64 - t
 
 lowest-requires : tie.Need-lowest-requires Inv-loop μ-loop
 lowest-requires c κs = search needs
@@ -31,7 +32,7 @@ lowest-requires c κs = search needs
 loop-holds : tie.Need-loop-holds Inv-loop μ-loop
 loop-holds c =
     let a = c .before .args in
-    walk-begins _ _ (on-only (a .t3) (a .counters .now) (a .truths .now) (a .falses .now) (a .on) (a .word)) _ (c .lowest .ensures)
+    walk-begins _ _ (on-only (record { sorts = a .sorts .now; a = a .a .now; b = a .b .now }) (a .counters .now) (a .truths .now) (a .falses .now) (a .on) (a .word)) _ (c .lowest .ensures)
 
 mul-asked : tie.Need-mul-asked Inv-loop μ-loop
 mul-asked c = search needs
@@ -75,8 +76,8 @@ timely-requires c κs = search needs
 with-requires : tie.Need-with-requires Inv-loop μ-loop
 with-requires c κs = search needs
 
-without-requires : tie.Need-without-requires Inv-loop μ-loop
-without-requires c κs = search needs
+rest-requires : tie.Need-rest-requires Inv-loop μ-loop
+rest-requires c κs = search needs
 
 lowest-requires-2 : tie.Need-lowest-requires-2 Inv-loop μ-loop
 lowest-requires-2 c κs = search needs
@@ -85,21 +86,21 @@ loop-less : tie.Need-loop-less Inv-loop μ-loop
 loop-less c =
     let at = c .before .before .before .before .before .before in
     let a = at .before .before .before .args in
-    let only = on-only (a .t3) (a .counters .now) (a .truths .now) (a .falses .now) (a .on) (a .word) in
-    let up = walk-up _ _ only _ _ _ (at .before .loop .inv) (at .loop-test .taken) _ _ (c .before .without .ensures) (c .lowest2 .ensures) in
+    let only = on-only (record { sorts = a .sorts .now; a = a .a .now; b = a .b .now }) (a .counters .now) (a .truths .now) (a .falses .now) (a .on) (a .word) in
+    let up = walk-up _ _ only _ _ _ (at .before .loop .inv) (at .loop-test .taken) _ _ (λ j. rw (at .before .loop .inv .at) (c .before .rest .ensures j)) (c .lowest2 .ensures) in
     omega arith
 
 loop-again : tie.Need-loop-again Inv-loop μ-loop
 loop-again c =
     let at = c .before .before .before .before .before .before in
     let a = at .before .before .before .args in
-    let q = firable-at (a .t3) (a .counters .now) (a .on) (a .truths .now) (a .falses .now) (a .word) in
-    let only = on-only (a .t3) (a .counters .now) (a .truths .now) (a .falses .now) (a .on) (a .word) in
+    let q = firable-at (record { sorts = a .sorts .now; a = a .a .now; b = a .b .now }) (a .counters .now) (a .on) (a .truths .now) (a .falses .now) (a .word) in
+    let only = on-only (record { sorts = a .sorts .now; a = a .a .now; b = a .b .now }) (a .counters .now) (a .truths .now) (a .falses .now) (a .on) (a .word) in
     let inv = at .before .loop .inv in
     let low = at .loop-test .taken in
     let member = walk-at q (a .on) only _ _ _ inv low in
     let asked = c .before .before .before .asked .ensures in
-    walk-on q (a .on) only _ _ _ inv low _ _ (c .before .without .ensures) (c .lowest2 .ensures) _
+    walk-on q (a .on) only _ _ _ inv low _ _ (λ j. rw (at .before .loop .inv .at) (c .before .rest .ensures j)) (c .lowest2 .ensures) _
     (⊎-elim
     (λ y.
     let passes = and-true (and-true member (sym asked ∙ y .0 .taken)) (sym (y .5 .ensures) ∙ y .6 .taken) in
@@ -112,7 +113,7 @@ loop-again c =
 returns : tie.Need-returns Inv-loop μ-loop
 returns c =
     let a = c .before .before .before .args in
-    let only = on-only (a .t3) (a .counters .now) (a .truths .now) (a .falses .now) (a .on) (a .word) in
+    let only = on-only (record { sorts = a .sorts .now; a = a .a .now; b = a .b .now }) (a .counters .now) (a .truths .now) (a .falses .now) (a .on) (a .word) in
     walk-ends _ _ only _ _ _ (c .before .loop .inv) (c .loop-test .left)
 
 pub firable-spec : {M : Type 1} → statement M
@@ -137,7 +138,7 @@ firable-spec =
     element-copy-out-timely-4
     timely-requires
     with-requires
-    without-requires
+    rest-requires
     lowest-requires-2
     loop-less
     loop-again

@@ -50,13 +50,13 @@ enabled-requires c κs = search needs
 with-if-requires : tie.Need-with-if-requires Inv-loop μ-loop
 with-if-requires c κs = search needs
 
-without-requires : tie.Need-without-requires Inv-loop μ-loop
-without-requires c κs = search needs
+rest-requires : tie.Need-rest-requires Inv-loop μ-loop
+rest-requires c κs = search needs
 
 loop-less : tie.Need-loop-less Inv-loop μ-loop
 loop-less c =
     let at = c .before .before .before .before .before .before .before .loop in
-    falls (at .left) _ (c .without .result) (c .without .ensures) (at .inv .0) (omega arith) (member (c .before .before .before .before .before) .1)
+    falls (at .left) _ (c .rest .result) (λ j. rw (c .before .before .before .before .before .lowest .ensures) (c .rest .ensures j)) (at .inv .0) (omega arith) (member (c .before .before .before .before .before) .1)
 
 loop-again : tie.Need-loop-again Inv-loop μ-loop
 loop-again c =
@@ -65,7 +65,7 @@ loop-again c =
     let k = member (c .before .before .before .before .before) in (
       omega arith,
       λ t.
-          kept (at .left) _ (c .without .result) (c .without .ensures)
+          kept (at .left) _ (c .rest .result) (λ j. rw (c .before .before .before .before .before .lowest .ensures) (c .rest .ensures j))
           (λ j. enabled-by (a .m .now) (a .w .now) (a .s .now) (getD (a .low .now) j 0) (getD (a .high .now) j 0) j)
           (at .r) (c .before .with-if .result) (c .before .before .enabled .result) (k .0) (k .1)
           (c .before .before .enabled .ensures ∙ rw (lt-ltb _ 64 (k .0))) (c .before .with-if .ensures) t ∙ at .inv .1 t,
@@ -91,7 +91,7 @@ all-enabled-spec =
     element-copy-out-enabled-2
     enabled-requires
     with-if-requires
-    without-requires
+    rest-requires
     loop-less
     loop-again
     returns)

@@ -44,13 +44,13 @@ mul-words c = omega (arith, member (c .before .before) .0)
 element-write-words : tie.Need-element-write-words Inv-loop μ-loop
 element-write-words c = omega (arith, member (c .before .before) .0)
 
-without-requires : tie.Need-without-requires Inv-loop μ-loop
-without-requires c κs = search needs
+rest-requires : tie.Need-rest-requires Inv-loop μ-loop
+rest-requires c κs = search needs
 
 loop-less : tie.Need-loop-less Inv-loop μ-loop
 loop-less c =
     let at = c .before .before .before .before .before .loop in
-    falls (at .left) _ (c .without .result) (c .without .ensures) (at .inv .0) (omega arith) (member (c .before .before .before) .1)
+    falls (at .left) _ (c .rest .result) (λ j. rw (c .before .before .before .lowest .ensures) (c .rest .ensures j)) (at .inv .0) (omega arith) (member (c .before .before .before) .1)
 
 loop-again : tie.Need-loop-again Inv-loop μ-loop
 loop-again c =
@@ -59,7 +59,7 @@ loop-again c =
       omega arith,
       simp length-set (omega arith),
       λ t j.
-          added (at .left) _ (c .without .result) (c .without .ensures) (at .words) (c .before .with .result) _ (omega (arith, k .0)) (k .1)
+          added (at .left) _ (c .rest .result) (λ j. rw (c .before .before .before .lowest .ensures) (c .rest .ensures j)) (at .words) (c .before .with .result) _ (omega (arith, k .0)) (k .1)
           (c .before .with .ensures) t j ∙ at .inv .2 t j,
     )
 
@@ -81,7 +81,7 @@ spread-spec =
     with-requires
     mul-words
     element-write-words
-    without-requires
+    rest-requires
     loop-less
     loop-again
     returns)

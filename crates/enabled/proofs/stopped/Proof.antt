@@ -68,18 +68,18 @@ returns c =
     let k = member (c .before .before .before .before .before) in
     sym (at .inv .1 ∙ found (at .left) _ _ (k .0) (k .1) (sym (c .before .stops .ensures) ∙ c .if1 .taken))
 
-without-requires : tie.Need-without-requires Inv-loop μ-loop
-without-requires c κs = search needs
+rest-requires : tie.Need-rest-requires Inv-loop μ-loop
+rest-requires c κs = search needs
 
 loop-less : tie.Need-loop-less Inv-loop μ-loop
 loop-less c =
     let at = c .before .before .before .before .before .before .before .before .loop in
-    falls (at .left) _ (c .without .result) (c .without .ensures) (at .inv .0) (omega arith) (member (c .before .before .before .before .before .before) .1)
+    falls (at .left) _ (c .rest .result) (λ j. rw (c .before .before .before .before .before .before .lowest .ensures) (c .rest .ensures j)) (at .inv .0) (omega arith) (member (c .before .before .before .before .before .before) .1)
 
 loop-again : tie.Need-loop-again Inv-loop μ-loop
 loop-again c =
     let at = c .before .before .before .before .before .before .before .before .loop in
-    (omega arith, at .inv .1 ∙ passed (at .left) _ (c .without .result) (c .without .ensures) _ (sym (c .before .before .stops .ensures) ∙ c .before .if1 .left))
+    (omega arith, at .inv .1 ∙ passed (at .left) _ (c .rest .result) (λ j. rw (c .before .before .before .before .before .before .lowest .ensures) (c .rest .ensures j)) _ (sym (c .before .before .stops .ensures) ∙ c .before .if1 .left))
 
 returns-2 : tie.Need-returns-2 Inv-loop μ-loop
 returns-2 c = sym (c .before .loop .inv .1 ∙ nothing (c .before .loop .left) _ (c .loop-test .left))
@@ -104,7 +104,7 @@ stopped-spec =
     index-2-stops-2
     stops-requires
     returns
-    without-requires
+    rest-requires
     loop-less
     loop-again
     returns-2)

@@ -43,19 +43,19 @@ add-moved c =
     let low = c .before .before .loop-test .taken in
     omega (arith, c .wide .ensures, over-part (l .left) (l .t) (λ k. 1) low (lowest-has (l .left) (l .t) (l .inv .0) low))
 
-without-requires : tie.Need-without-requires Inv-loop μ-loop
-without-requires c κs = search needs
+rest-requires : tie.Need-rest-requires Inv-loop μ-loop
+rest-requires c κs = search needs
 
 lowest-requires-2 : tie.Need-lowest-requires-2 Inv-loop μ-loop
 lowest-requires-2 c κs = search needs
 
 -- What a sum over the members loses with the member taken out.
 taken-out : (c : tie.After-lowest2 Inv-loop μ-loop) (f : ℕ → ℕ)
-    → over (c .before .before .before .before .before .loop .left) f ≡ f (c .before .before .before .before .before .loop .t) + over (c .before .without .result) f
+    → over (c .before .before .before .before .before .loop .left) f ≡ f (c .before .before .before .before .before .loop .t) + over (c .before .rest .result) f
 taken-out c f =
     let l = c .before .before .before .before .before .loop in
     let low = c .before .before .before .before .loop-test .taken in
-    over-less f (l .left) (c .before .without .result) (l .t) low (lowest-has (l .left) (l .t) (l .inv .0) low) (c .before .without .ensures)
+    over-less f (l .left) (c .before .rest .result) (l .t) low (lowest-has (l .left) (l .t) (l .inv .0) low) (λ j. rw (l .inv .0) (c .before .rest .ensures j))
 
 loop-less : tie.Need-loop-less Inv-loop μ-loop
 loop-less c = omega (arith, taken-out c (λ k. 1))
@@ -87,7 +87,7 @@ at-place-spec =
     element-copy-out-wide
     wide-requires
     add-moved
-    without-requires
+    rest-requires
     lowest-requires-2
     loop-less
     loop-again

@@ -3,6 +3,7 @@ use mathlib.Core.Bool.{true, _&&_, _||_}
 use mathlib.Core.Path.{_≡_, _∙_}
 use Prim.Native.Nat.{ℕ, _^_, _<_}
 use native.Mathlib.Omega.{arith}
+use lib.Bits.{bitAnd}
 use lib.ListN.{getD}
 use borrow.Author.Needs.{needs}
 use Rattle.meaning.specs.Bytes.{bit}
@@ -12,14 +13,14 @@ use Rattle.resets.proofs.resets.Statement.{statement}
 use Rattle.resets.proofs.resets.Tie as tie
 
 abbrev Inv-loop : tie.InvT-loop
-Inv-loop timed fired m taken w s low high r₀ left₀ r left =
+Inv-loop at timed fired m taken w s low high r₀ left₀ r left =
     (left < 2 ^ 64)
     × ((t : ℕ)
-    → (bit r t || (bit left t && (bit fired t || starved-by m taken w s (getD low t 0) (getD high t 0) t)))
-    ≡ (bit timed t && (bit fired t || starved-by m taken w s (getD low t 0) (getD high t 0) t)))
+    → (bit r t || (bit left t && (bit fired t || starved-by m taken w s (bitAnd (getD low t 0) (at .low)) (bitAnd (getD high t 0) (at .high)) t)))
+    ≡ (bit timed t && (bit fired t || starved-by m taken w s (bitAnd (getD low t 0) (at .low)) (bitAnd (getD high t 0) (at .high)) t)))
 
 abbrev μ-loop : tie.MeasureT-loop
-μ-loop timed fired m taken w s low high r₀ left₀ r left = left
+μ-loop at timed fired m taken w s low high r₀ left₀ r left = left
 
 loop-holds : tie.Need-loop-holds Inv-loop μ-loop
 loop-holds c = (omega arith, λ t. none-kept (c .args .timed) t _)
@@ -39,34 +40,34 @@ element-copy-out-stirred : tie.Need-element-copy-out-stirred Inv-loop μ-loop
 element-copy-out-stirred c = omega (arith, member c .0)
 
 mul-stirred-2 : tie.Need-mul-stirred-2 Inv-loop μ-loop
-mul-stirred-2 c = omega (arith, member (c .before) .0)
+mul-stirred-2 c = omega (arith, member (c .before .before) .0)
 
 element-copy-out-stirred-2 : tie.Need-element-copy-out-stirred-2 Inv-loop μ-loop
-element-copy-out-stirred-2 c = omega (arith, member (c .before) .0)
+element-copy-out-stirred-2 c = omega (arith, member (c .before .before) .0)
 
 stirred-requires : tie.Need-stirred-requires Inv-loop μ-loop
-stirred-requires c κs = omega (arith, member (c .before .before) .0)
+stirred-requires c κs = omega (arith, member (c .before .before .before .before) .0)
 
 with-if-requires : tie.Need-with-if-requires Inv-loop μ-loop
 with-if-requires c κs = search needs
 
-without-requires : tie.Need-without-requires Inv-loop μ-loop
-without-requires c κs = search needs
+rest-requires : tie.Need-rest-requires Inv-loop μ-loop
+rest-requires c κs = search needs
 
 loop-less : tie.Need-loop-less Inv-loop μ-loop
 loop-less c =
-    let at = c .before .before .before .before .before .before .before .loop in
-    falls (at .left) _ (c .without .result) (c .without .ensures) (at .inv .0) (omega arith) (member (c .before .before .before .before .before) .1)
+    let at = c .before .before .before .before .before .before .before .before .before .loop in
+    falls (at .left) _ (c .rest .result) (λ j. rw (c .before .before .before .before .before .before .before .lowest .ensures) (c .rest .ensures j)) (at .inv .0) (omega arith) (member (c .before .before .before .before .before .before .before) .1)
 
 loop-again : tie.Need-loop-again Inv-loop μ-loop
 loop-again c =
-    let at = c .before .before .before .before .before .before .before .loop in
-    let a = c .before .before .before .before .before .before .before .before .args in
-    let k = member (c .before .before .before .before .before) in (
+    let at = c .before .before .before .before .before .before .before .before .before .loop in
+    let a = c .before .before .before .before .before .before .before .before .before .before .args in
+    let k = member (c .before .before .before .before .before .before .before) in (
       omega arith,
       λ t.
-          kept (at .left) _ (c .without .result) (c .without .ensures)
-          (λ j. bit (a .fired) j || starved-by (a .m .now) (a .taken .now) (a .w .now) (a .s .now) (getD (a .low .now) j 0) (getD (a .high .now) j 0) j)
+          kept (at .left) _ (c .rest .result) (λ j. rw (c .before .before .before .before .before .before .before .lowest .ensures) (c .rest .ensures j))
+          (λ j. bit (a .fired) j || starved-by (a .m .now) (a .taken .now) (a .w .now) (a .s .now) (bitAnd (getD (a .low .now) j 0) (a .at .low)) (bitAnd (getD (a .high .now) j 0) (a .at .high)) j)
           (at .r) (c .before .with-if .result) (c .before .before .stirred .result) (k .0) (k .1)
           (c .before .before .stirred .ensures) (c .before .with-if .ensures) t ∙ at .inv .1 t,
     )
@@ -74,7 +75,7 @@ loop-again c =
 returns : tie.Need-returns Inv-loop μ-loop
 returns c t =
     let a = c .before .before .args in
-    all-kept (λ j. bit (a .fired) j || starved-by (a .m .now) (a .taken .now) (a .w .now) (a .s .now) (getD (a .low .now) j 0) (getD (a .high .now) j 0) j)
+    all-kept (λ j. bit (a .fired) j || starved-by (a .m .now) (a .taken .now) (a .w .now) (a .s .now) (bitAnd (getD (a .low .now) j 0) (a .at .low)) (bitAnd (getD (a .high .now) j 0) (a .at .high)) j)
     (a .timed) (c .before .loop .left) (c .before .loop .r) t (omega arith) (c .loop-test .left) (c .before .loop .inv .1 t)
 
 pub resets-spec : {M : Type 1} → statement M
@@ -91,7 +92,7 @@ resets-spec =
     element-copy-out-stirred-2
     stirred-requires
     with-if-requires
-    without-requires
+    rest-requires
     loop-less
     loop-again
     returns)

@@ -8,7 +8,7 @@ use lib.ListN.{getD}
 use borrow.Author.Needs.{needs}
 use borrow.Author.Tests.{lt-ltb}
 use Rattle.meaning.specs.Bytes.{bit}
-use Rattle.enabled.proofs.Walk.{no-number, next-number}
+use Rattle.sets.proofs.Walk.{no-number, next-number}
 use Rattle.resets.proofs.timed.Statement.{statement}
 use Rattle.resets.proofs.timed.Tie as tie
 

@@ -1,48 +1,83 @@
--- `first_over` meets its contract: no place before p is above 65,535, so the first that is, is the first met.
-use mathlib.Core.Bool.{false}
-use mathlib.Core.Path.{_≡_, sym}
+-- `first_over` meets its contract: of the places no one before p is above 65,535, so the first that is, is the first met.
+use mathlib.Core.Bool.{false, _&&_}
+use mathlib.Core.Path.{_≡_, sym, ap, _∙_}
 use Prim.Native.Nat.{ℕ, _-_, _≤_, _<_}
-use native.Mathlib.Nat.{not-suc-le-zero}
 use native.Mathlib.Omega.{arith}
 use lib.Dec.{ltb}
-use lib.ListN.{getD}
-use borrow.Author.Count.{below-more}
-use borrow.Author.Needs.{needs}
 use borrow.Author.Tests.{lt-ltb, le-ltb}
 use Rattle.meaning.proofs.Below.{first-is, first-none}
+use Rattle.meaning.proofs.Bool.{and-true}
+use Rattle.sets.proofs.Walk.{Walked, begins, none-passed, member, up, on, passed}
+use Rattle.places.specs.Set.{has}
+use Rattle.settle.specs.Settle.{new-at}
+use borrow.Author.Needs.{needs}
 use Rattle.settle.proofs.first_over.Statement.{statement}
 use Rattle.settle.proofs.first_over.Tie as tie
 
 abbrev Inv-loop : tie.InvT-loop
-Inv-loop tokens p₀ p = (p ≤ 128) × ((q : ℕ) → q < p → ltb 65535 (getD tokens q 0) ≡ false)
+Inv-loop m taken put left₀ p₀ left p = Walked 128 (has left₀) (has left) p × ((q : ℕ) → q < p → (has left₀ q && ltb 65535 (new-at m taken put q)) ≡ false)
 
 abbrev μ-loop : tie.MeasureT-loop
-μ-loop tokens p₀ p = 128 - p
+μ-loop m taken put left₀ p₀ left p = 128 - p
+
+first-requires : tie.Need-first-requires Inv-loop μ-loop
+first-requires c κs = search needs
 
 loop-holds : tie.Need-loop-holds Inv-loop μ-loop
-loop-holds c = (omega arith, λ q h. absurd (not-suc-le-zero h))
+loop-holds c = (begins 128 _ _ (c .first .ensures), none-passed 128 _ _ _ (c .first .ensures))
 
-mul-if1 : tie.Need-mul-if1 Inv-loop μ-loop
-mul-if1 c = omega arith
+mul-at-place : tie.Need-mul-at-place Inv-loop μ-loop
+mul-at-place c = search needs
 
-element-copy-out-if1 : tie.Need-element-copy-out-if1 Inv-loop μ-loop
-element-copy-out-if1 c = search needs
+element-copy-out-at-place : tie.Need-element-copy-out-at-place Inv-loop μ-loop
+element-copy-out-at-place c = search needs
+
+mul-at-place-2 : tie.Need-mul-at-place-2 Inv-loop μ-loop
+mul-at-place-2 c = search needs
+
+element-copy-out-at-place-2 : tie.Need-element-copy-out-at-place-2 Inv-loop μ-loop
+element-copy-out-at-place-2 c = search needs
+
+mul-at-place-3 : tie.Need-mul-at-place-3 Inv-loop μ-loop
+mul-at-place-3 c = search needs
+
+element-copy-out-at-place-3 : tie.Need-element-copy-out-at-place-3 Inv-loop μ-loop
+element-copy-out-at-place-3 c = search needs
+
+at-place-requires : tie.Need-at-place-requires Inv-loop μ-loop
+at-place-requires c κs =
+    let in-loop = c .before .before .before in
+    let start = in-loop .before .before .before in
+    (start .pre .0 (in-loop .before .loop .p) (in-loop .loop-test .taken), start .pre .1 (in-loop .before .loop .p) (in-loop .loop-test .taken))
 
 returns : tie.Need-returns Inv-loop μ-loop
 returns c =
-    let at = c .before .before .before in
-    sym (first-is 128 _ (at .loop .p) (omega arith) (lt-ltb 65535 _ (c .if1 .taken)) (at .loop .inv .1))
+    let in-loop = c .before .before .before .before .before in
+    let at = in-loop .before .loop in
+    sym
+    (first-is 128 _ (at .p) (in-loop .loop-test .taken)
+    (and-true (member 128 _ _ _ (at .inv .0) (in-loop .loop-test .taken)) (rw (← c .before .at-place .ensures) (lt-ltb 65535 _ (c .if1 .taken)))) (at .inv .1))
 
-add-p : tie.Need-add-p Inv-loop μ-loop
-add-p c = omega arith
+rest-requires : tie.Need-rest-requires Inv-loop μ-loop
+rest-requires c κs = search needs
+
+first-requires-2 : tie.Need-first-requires-2 Inv-loop μ-loop
+first-requires-2 c κs = search needs
 
 loop-less : tie.Need-loop-less Inv-loop μ-loop
-loop-less c = omega arith
+loop-less c =
+    let in-loop = c .before .before .before .before .before .before .before in
+    omega (arith, up 128 _ _ _ (in-loop .before .loop .inv .0) (in-loop .loop-test .taken) _ _ (c .before .rest .ensures) (c .first2 .ensures))
 
 loop-again : tie.Need-loop-again Inv-loop μ-loop
 loop-again c =
-    let at = c .before .before .before in
-    (omega arith, below-more _ (at .loop .p) (at .loop .inv .1) (le-ltb 65535 _ (c .if1 .left)))
+    let in-loop = c .before .before .before .before .before .before .before in
+    let at = in-loop .before .loop in
+    let test = in-loop .loop-test .taken in (
+      on 128 _ _ _ (at .inv .0) test _ _ (c .before .rest .ensures) (c .first2 .ensures),
+      passed 128 _ _ _ (at .inv .0) test _ _ (c .before .rest .ensures) (c .first2 .ensures) _ (at .inv .1)
+          (rw (← c .before .before .before .at-place .ensures) (le-ltb 65535 _ (c .before .before .if1 .left))),
+    )
 
 returns-2 : tie.Need-returns-2 Inv-loop μ-loop
 returns-2 c = sym (first-none 128 _ (λ p h. c .before .loop .inv .1 p (omega (arith, c .loop-test .left))))
@@ -53,11 +88,18 @@ first-over-spec =
     (tie.spec
     Inv-loop
     μ-loop
+    first-requires
     loop-holds
-    mul-if1
-    element-copy-out-if1
+    mul-at-place
+    element-copy-out-at-place
+    mul-at-place-2
+    element-copy-out-at-place-2
+    mul-at-place-3
+    element-copy-out-at-place-3
+    at-place-requires
     returns
-    add-p
+    rest-requires
+    first-requires-2
     loop-less
     loop-again
     returns-2)

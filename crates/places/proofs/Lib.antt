@@ -1,0 +1,2 @@
+-- A set of places in two words.
+pub mod Halves

@@ -1,0 +1,2 @@
+-- What a set of places has.
+pub mod Set

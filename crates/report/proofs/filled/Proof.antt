@@ -1,0 +1,73 @@
+-- The loop keeps that the set has the rows passed that are not empty.
+use mathlib.Core.Bool.{Bool, not, _&&_, or-false}
+use mathlib.Core.Logic.{⊎-elim}
+use mathlib.Core.Path.{_≡_, refl, sym, ap, _∙_}
+use Prim.Native.Nat.{ℕ, _+_, _-_, _≤_}
+use native.Mathlib.Omega.{arith}
+use lib.Dec.{eqb, ltb}
+use lib.ListN.{getD}
+use borrow.Author.Tests.{eq-eqb, ne-eqb, lt-ltb}
+use Rattle.meaning.specs.Bytes.{bit}
+use Rattle.sets.proofs.Walk.{no-number, next-number}
+use borrow.Author.Needs.{needs}
+use Rattle.report.proofs.filled.Statement.{statement}
+use Rattle.report.proofs.filled.Tie as tie
+
+abbrev Inv-loop : tie.InvT-loop
+Inv-loop index from r₀ i₀ r i = (i ≤ 64) × ((j : ℕ) → bit r j ≡ (ltb j i && not (eqb (getD index (from + j) 0) 0)))
+
+abbrev μ-loop : tie.MeasureT-loop
+μ-loop index from r₀ i₀ r i = 64 - i
+
+loop-holds : tie.Need-loop-holds Inv-loop μ-loop
+loop-holds c = (omega arith, no-number _)
+
+add-if1 : tie.Need-add-if1 Inv-loop μ-loop
+add-if1 c = search needs
+
+mul-if1 : tie.Need-mul-if1 Inv-loop μ-loop
+mul-if1 c = search needs
+
+element-copy-out-if1 : tie.Need-element-copy-out-if1 Inv-loop μ-loop
+element-copy-out-if1 c = search needs
+
+with-requires : tie.Need-with-requires Inv-loop μ-loop
+with-requires c κs = search needs
+
+add-i : tie.Need-add-i Inv-loop μ-loop
+add-i c = search needs
+
+loop-less : tie.Need-loop-less Inv-loop μ-loop
+loop-less c = search needs
+
+loop-again : tie.Need-loop-again Inv-loop μ-loop
+loop-again c =
+    let in-loop = c .before .before in
+    let at = in-loop .before .loop in
+    let a = in-loop .before .before .args in
+    let row : ℕ → Bool = λ j. not (eqb (getD (a .index .now) (a .from + j) 0) 0) in (
+      omega arith,
+      ⊎-elim
+          (λ w j. rw (w .2) (next-number row j (at .i) (in-loop .loop-test .taken) (sym (ap not (ne-eqb _ 0 (w .0 .taken)))) (w .1 .ensures j) (at .inv .1 j)))
+          (λ w j. rw (w .1) (next-number row j (at .i) (in-loop .loop-test .taken) (sym (ap not (eq-eqb _ 0 (w .0 .left)))) (sym (or-false _)) (at .inv .1 j)))
+          (c .if1 .came),
+    )
+
+returns : tie.Need-returns Inv-loop μ-loop
+returns c j h = c .before .loop .inv .1 j ∙ rw (lt-ltb j (c .before .loop .i) (omega arith))
+
+pub filled-spec : {M : Type 1} → statement M
+filled-spec =
+    tie.close
+    (tie.spec
+    Inv-loop
+    μ-loop
+    loop-holds
+    add-if1
+    mul-if1
+    element-copy-out-if1
+    with-requires
+    add-i
+    loop-less
+    loop-again
+    returns)
