@@ -13,10 +13,6 @@ use Rattle.meaning.proofs.Bool.{and-left, and-right, and-true, same-test}
 use Rattle.records.specs.Record.{Reads}
 use Rattle.records.specs.declared.Rec.{Rec}
 
--- Record k names y in row x: what `gather` asks of it.
-abbrev pub names : Table → ℕ → ℕ → ℕ → ℕ → ℕ → Bool
-names tb kind sort x y k = is tb kind k && eqb (tb .sort k) sort && eqb (tb .one k) x && eqb (tb .two k) y
-
 -- Record k is a basic arc to i from a place whose row has j: what `conflicts` asks of it.
 abbrev pub shares : Table → List ℕ → ℕ → ℕ → ℕ → Bool
 shares tb takers i j k = basic tb k && eqb (tb .two k) i && bit (getD takers (tb .one k) 0) j

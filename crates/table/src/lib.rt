@@ -4,7 +4,7 @@ ghost use mathlib.Core.Path.{_≡_};
 ghost use mathlib.Core.Bool.{not, _&&_};
 ghost use Prim.Native.Nat.{_+_, _<_, _≤_};
 ghost use lib.Dec.{eqb};
-ghost use lib.ListN.{getD};
+ghost use lib.ListN.{getD, replicate};
 ghost use Rattle.meaning.specs.Below.{some, first};
 ghost use Rattle.meaning.specs.Bytes.{bit};
 ghost use Rattle.meaning.specs.Table.{table};
@@ -41,49 +41,36 @@ fn row(x: Rec) -> usize
     start(kind, x.sort) + records::wide(x.one)
 }
 
-// What the pass found: at the first record that meets 2, 3 or 4 its number, else number 0 and at the number of records. The rows hold the
-// records before that one.
+// What the pass found: at the first record that meets 2, 3 or 4 its number, else number 0 and at the number of records.
 pub struct Pass {
     pub number: u8,
     pub at: usize,
-    pub rows: [u64; 768],
 }
 
-// Each record in order is tested for 2, 3 and 4; one that says what an earlier one said finds its bit set.
-pub fn scan(t: &[u8]) -> Pass
-    ensures { λ s. ⌜ Scanned (table (now (t .entry))) s ⌝ }
+// Each record in order is tested for 2, 3 and 4; one that says what an earlier one said finds its bit set. The rows are lent empty, and hold
+// the records before the one at which the pass ends.
+pub fn scan(t: &[u8], rows: &mut [u64; 768]) -> Pass
+    requires { ⌜ now rows ≡ replicate 768 0 ⌝ }
+    ensures { λ s. ⌜ Scanned (table (now (t .entry))) s (now (rows .exit)) ⌝ }
 {
     let n = t.len() / 8;
-    let mut rows = [0u64; 768];
     let mut r = 0;
     while r < n {
         let x = records::read(t, r);
         let f = records::fault(x);
         if f != 0 {
-            return Pass {
-                number: f,
-                at: r,
-                rows,
-            };
+            return Pass { number: f, at: r };
         }
         let q = row(x);
         let two = records::wide(x.two);
         let line = rows[q];
         if sets::has(line, two) {
-            return Pass {
-                number: 4,
-                at: r,
-                rows,
-            };
+            return Pass { number: 4, at: r };
         }
         rows[q] = sets::with(line, two);
         r += 1;
     }
-    Pass {
-        number: 0,
-        at: n,
-        rows,
-    }
+    Pass { number: 0, at: n }
 }
 
 // Does row q lack its bit 0, by which a place or a transition is declared?

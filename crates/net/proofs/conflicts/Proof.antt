@@ -9,7 +9,8 @@ use lib.ListN.{getD}
 use borrow.Author.Needs.{needs}
 use Rattle.meaning.specs.Bytes.{bit}
 use Rattle.meaning.specs.Table.{Table, table, basic}
-use Rattle.net.proofs.Step.{Grown, grown-none, grown-same, grown-more}
+use Rattle.net.specs.Grow.{Grown}
+use Rattle.net.proofs.Step.{grown-none, grown-same, grown-more}
 use Rattle.net.proofs.Tests.{shares, basic-low, basic-says, all-read}
 use Rattle.net.proofs.conflicts.Statement.{statement}
 use Rattle.net.proofs.conflicts.Tie as tie

@@ -6,21 +6,18 @@ use native.Mathlib.Omega.{arith}
 use lib.ListN.{length}
 use borrow.Author.Needs.{needs}
 use Rattle.meaning.specs.Table.{table}
-use Rattle.table.proofs.Passed.{Step, zeros, passed-none, Passed, passed-all, stopped-own, row-there, stopped-twice, passed-one}
+use Rattle.table.proofs.Passed.{Step, passed-none, Passed, passed-all, stopped-own, row-there, stopped-twice, passed-one}
 use Rattle.table.proofs.scan.Statement.{statement}
 use Rattle.table.proofs.scan.Tie as tie
 
--- The loop keeps Passed: no record before r has a fault, and the rows hold them; so the next fault is the record's own or its bit.
-
 abbrev Inv-loop : tie.InvT-loop
-Inv-loop t n rows₀ r₀ rows r = Passed (table t) n rows r
+Inv-loop t rows₀ n r₀ rows r = Passed (table t) n rows r
 
 abbrev μ-loop : tie.MeasureT-loop
-μ-loop t n rows₀ r₀ rows r = n - r
+μ-loop t rows₀ n r₀ rows r = n - r
 
 loop-holds : tie.Need-loop-holds Inv-loop μ-loop
-unfolding zeros
-loop-holds c = passed-none _ _ refl refl
+loop-holds c = passed-none _ _ (c .before .pre)
 
 read-requires : tie.Need-read-requires Inv-loop μ-loop
 read-requires c κs = search needs
@@ -57,23 +54,23 @@ step c =
 mul-line : tie.Need-mul-line Inv-loop μ-loop
 mul-line c = omega (arith, row-there (step c))
 
-array-read-line : tie.Need-array-read-line Inv-loop μ-loop
-array-read-line c = row-there (step c)
+element-copy-out-line : tie.Need-element-copy-out-line Inv-loop μ-loop
+element-copy-out-line c = row-there (step c)
 
 has-requires : tie.Need-has-requires Inv-loop μ-loop
 has-requires c κs = search needs
 
 returns-2 : tie.Need-returns-2 Inv-loop μ-loop
-returns-2 c = stopped-twice (step (c .before .before)) (sym (c .before .has .ensures) ∙ c .if2 .taken)
+returns-2 c = stopped-twice (step (c .before .before .before)) (sym (c .before .has .ensures) ∙ c .if2 .taken)
 
 with-requires : tie.Need-with-requires Inv-loop μ-loop
 with-requires c κs = search needs
 
 mul-rows : tie.Need-mul-rows Inv-loop μ-loop
-mul-rows c = omega (arith, row-there (step (c .before .before .before)))
+mul-rows c = omega (arith, row-there (step (c .before .before .before .before)))
 
-array-write-rows : tie.Need-array-write-rows Inv-loop μ-loop
-array-write-rows c = row-there (step (c .before .before .before))
+element-write-rows : tie.Need-element-write-rows Inv-loop μ-loop
+element-write-rows c = row-there (step (c .before .before .before .before))
 
 add-r : tie.Need-add-r Inv-loop μ-loop
 add-r c = search needs
@@ -83,8 +80,8 @@ loop-less c = search needs
 
 loop-again : tie.Need-loop-again Inv-loop μ-loop
 loop-again c =
-    rw (add-one (c .before .before .before .before .before .before .before .before .before .loop .r))
-    (passed-one (step (c .before .before .before)) (c .with .result) (sym (c .before .before .has .ensures) ∙ c .before .if2 .left) (c .with .ensures))
+    rw (add-one (c .before .before .before .before .before .before .before .before .before .before .loop .r))
+    (passed-one (step (c .before .before .before .before)) (c .with .result) (sym (c .before .before .has .ensures) ∙ c .before .if2 .left) (c .with .ensures))
 
 returns-3 : tie.Need-returns-3 Inv-loop μ-loop
 returns-3 c = passed-all (c .before .loop .inv) (c .loop-test .left)
@@ -102,12 +99,12 @@ scan-spec =
     row-requires
     wide-requires
     mul-line
-    array-read-line
+    element-copy-out-line
     has-requires
     returns-2
     with-requires
     mul-rows
-    array-write-rows
+    element-write-rows
     add-r
     loop-less
     loop-again
