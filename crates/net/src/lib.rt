@@ -4,11 +4,11 @@ use records::Rec;
 ghost use mathlib.Core.Bool.{not, _&&_};
 ghost use mathlib.Core.Path.{_≡_};
 ghost use lib.Dec.{eqb, ltb};
-ghost use lib.ListN.{getD};
+ghost use lib.ListN.{length, replicate};
 ghost use Prim.Native.Nat.{ℕ, _+_};
 ghost use Rattle.meaning.specs.Table.{Table, table};
 ghost use Rattle.records.specs.Record.{Reads};
-ghost use Rattle.net.specs.Rows.{Conflicts, Blank, Filled, inhibits-by};
+ghost use Rattle.net.specs.Rows.{Shared, Conflicts, Blank, Filled, inhibits-by};
 ghost use Rattle.net.specs.Grow.{names, Grown, Kept};
 
 // Is x of this kind and sort, with byte 1 below 128?
@@ -17,17 +17,6 @@ fn named(x: Rec, kind: u8, sort: u8) -> bool
 {
     if x.kind == kind {
         if x.sort == sort { x.one < 128 } else { false }
-    } else {
-        false
-    }
-}
-
-// Is x a basic arc, to a transition below 64?
-fn basic(x: Rec) -> bool
-    ensures { λ b. ⌜ b ≡ (eqb (x .kind) 3 && eqb (x .sort) 0 && ltb (x .two) 64) ⌝ }
-{
-    if x.kind == 3 {
-        if x.sort == 0 { x.two < 64 } else { false }
     } else {
         false
     }
@@ -95,30 +84,33 @@ pub fn fill(
     }
 }
 
-// Row i, and 0 past the last.
-fn row(rows: &[u64], i: usize) -> u64
-    ensures { λ r. ⌜ r ≡ getD (now (rows .entry)) i 0 ⌝ }
+// Each member of a set gets the whole set into its row.
+fn share(rows: &mut [u64; 64], set: u64)
+    requires { ⌜ length (now rows) ≡ 64 ⌝ }
+    ensures { λ _. ⌜ Shared (now (rows .entry)) set (now (rows .exit)) ⌝ }
 {
-    if i < rows.len() { rows[i] } else { 0 }
+    let mut left = set;
+    while left != 0 {
+        let t = sets::lowest(left);
+        rows[t] = sets::union(rows[t], set);
+        left = sets::without(left, t);
+    }
 }
 
-// For each transition the set of those that take from a place from which it takes: takers[p] is who takes from place p.
-pub fn conflicts(t: &[u8], takers: &[u64; 128]) -> [u64; 64]
-    ensures { λ r. ⌜ Conflicts (table (now (t .entry))) (now (takers .entry)) r ⌝ }
+// For each transition the set of those that take from a place from which it takes: takers[p] is who takes from place p. The rows are lent
+// empty.
+pub fn conflicts(takers: &[u64; 128], rows: &mut [u64; 64])
+    requires { ⌜ now rows ≡ replicate 64 0 ⌝ }
+    ensures { λ _. ⌜ Conflicts (now (takers .entry)) (now (rows .exit)) ⌝ }
 {
-    let n = t.len() / 8;
-    let mut rows = [0u64; 64];
-    let mut r = 0;
-    while r < n {
-        let x = records::read(t, r);
-        let one = records::wide(x.one);
-        let two = records::wide(x.two);
-        if basic(x) {
-            rows[two] = sets::union(rows[two], row(takers, one));
+    let mut p = 0;
+    while p < 128 {
+        let set = takers[p];
+        if set != 0 {
+            share(rows, set);
         }
-        r += 1;
+        p += 1;
     }
-    rows
 }
 
 // Of two arcs from one place, by weight and sort: is the first a basic or test arc and the second an inhibitor arc of equal weight?

@@ -1,2 +1,3 @@
 -- The laws of sets in one word.
 pub mod Bits
+pub mod Members
