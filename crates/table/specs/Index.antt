@@ -12,6 +12,10 @@ use Rattle.meaning.specs.Defined.{fault, faulty}
 use Rattle.records.specs.declared.Rec.{Rec}
 use Rattle.table.specs.declared.Pass.{Pass}
 
+-- The first row of each kind's block, the post arcs' left aside.
+abbrev pub plain-blocks : List ℕ
+plain-blocks = 0 ∷ 0 ∷ 128 ∷ 192 ∷ 448 ∷ 512 ∷ 576 ∷ 704 ∷ []
+
 -- The first row of a kind's block.
 unfoldable pub block : ℕ → ℕ → ℕ
 block kind sort = getD (0 ∷ 0 ∷ 128 ∷ cond (eqb sort 3) 320 192 ∷ 448 ∷ 512 ∷ 576 ∷ 704 ∷ []) kind 0

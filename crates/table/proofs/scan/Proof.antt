@@ -1,5 +1,5 @@
 -- The loop keeps Passed: no record before r has a fault, and the rows hold them; so the next fault is the record's own or its bit.
-use mathlib.Core.Path.{refl, sym, _∙_}
+use mathlib.Core.Path.{sym, _∙_}
 use Prim.Native.Nat.{_-_, _/_}
 use native.Mathlib.Numerals.{add-one}
 use native.Mathlib.Omega.{arith}
@@ -11,42 +11,48 @@ use Rattle.table.proofs.scan.Statement.{statement}
 use Rattle.table.proofs.scan.Tie as tie
 
 abbrev Inv-loop : tie.InvT-loop
-Inv-loop t rows₀ n r₀ rows r = Passed (table t) n rows r
+Inv-loop t rows₀ n kinds blocks r₀ rows r = Passed (table t) n rows r
 
 abbrev μ-loop : tie.MeasureT-loop
-μ-loop t rows₀ n r₀ rows r = n - r
+μ-loop t rows₀ n kinds blocks r₀ rows r = n - r
+
+kinds-requires : tie.Need-kinds-requires Inv-loop μ-loop
+kinds-requires c κs = search needs
+
+blocks-requires : tie.Need-blocks-requires Inv-loop μ-loop
+blocks-requires c κs = search needs
 
 loop-holds : tie.Need-loop-holds Inv-loop μ-loop
-loop-holds c = passed-none _ _ (c .before .pre)
+loop-holds c = passed-none _ _ (c .before .before .before .pre)
 
 read-requires : tie.Need-read-requires Inv-loop μ-loop
 read-requires c κs = search needs
 
 fault-requires : tie.Need-fault-requires Inv-loop μ-loop
-fault-requires c κs = search needs
+fault-requires c κs = c .before .before .before .before .before .kinds .ensures
 
 returns : tie.Need-returns Inv-loop μ-loop
 returns c =
-    stopped-own (c .before .before .before .before .loop .inv) (c .before .before .before .loop-test .taken) (c .before .before .read .ensures) (c .before .fault .ensures) (c .if1 .taken)
+    stopped-own (c .before .before .before .before .before .loop .inv) (c .before .before .before .before .loop-test .taken) (c .before .before .before .read .ensures) (c .before .fault .ensures) (c .if1 .taken)
 
 row-requires : tie.Need-row-requires Inv-loop μ-loop
-row-requires c κs = search needs
+row-requires c κs = c .before .before .before .before .before .before .before .blocks2 .ensures
 
 wide-requires : tie.Need-wide-requires Inv-loop μ-loop
 wide-requires c κs = search needs
 
 -- What is known of a record whose own columns are in order.
 step : (c : tie.After-wide Inv-loop μ-loop)
-    → let bs = c .before .before .before .before .before .before .before .before .args .t .now in
-    let at = c .before .before .before .before .before .before .loop in
+    → let bs = c .before .before .before .before .before .before .before .before .before .before .before .before .args .t .now in
+    let at = c .before .before .before .before .before .before .before .before .loop in
     Step (table bs) (length bs / 8) (at .rows) (at .r) (c .before .row .result) (c .wide .result)
 step c =
     record {
-      kept = c .before .before .before .before .before .before .loop .inv;
-      more = c .before .before .before .before .before .loop-test .taken;
-      x = c .before .before .before .before .read .result;
-      reads = c .before .before .before .before .read .ensures;
-      sound = sym (c .before .before .before .fault .ensures) ∙ c .before .before .if1 .left;
+      kept = c .before .before .before .before .before .before .before .before .loop .inv;
+      more = c .before .before .before .before .before .before .before .loop-test .taken;
+      x = c .before .before .before .before .before .before .read .result;
+      reads = c .before .before .before .before .before .before .read .ensures;
+      sound = sym (c .before .before .before .before .fault .ensures) ∙ c .before .before .before .if1 .left;
       row-of-x = c .before .row .ensures;
       two-of-x = c .wide .ensures;
     }
@@ -80,7 +86,7 @@ loop-less c = search needs
 
 loop-again : tie.Need-loop-again Inv-loop μ-loop
 loop-again c =
-    rw (add-one (c .before .before .before .before .before .before .before .before .before .before .loop .r))
+    rw (add-one (c .before .before .before .before .before .before .before .before .before .before .before .before .loop .r))
     (passed-one (step (c .before .before .before .before)) (c .with .result) (sym (c .before .before .has .ensures) ∙ c .before .if2 .left) (c .with .ensures))
 
 returns-3 : tie.Need-returns-3 Inv-loop μ-loop
@@ -92,6 +98,8 @@ scan-spec =
     (tie.spec
     Inv-loop
     μ-loop
+    kinds-requires
+    blocks-requires
     loop-holds
     read-requires
     fault-requires
