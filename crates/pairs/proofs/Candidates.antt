@@ -12,6 +12,7 @@ use Rattle.meaning.specs.Below.{first}
 use Rattle.meaning.specs.Bytes.{bit}
 use Rattle.meaning.proofs.Bool.{either}
 use Rattle.meaning.proofs.Below.{first-is, first-none}
+use Rattle.sets.proofs.Bits.{bit-zero}
 use Rattle.pairs.specs.Settled.{settled-by, loose}
 
 -- No number below n passes.
@@ -65,6 +66,10 @@ module _ (conflicts above truths falses : List ℕ) (w s : List (List ℕ)) wher
       (λ m.
       let same : k ≡ 64 * i + (k - 64 * i) = omega arith in
       ap candidate same ∙ loose-at i (k - 64 * i) (omega arith) ∙ row (k - 64 * i) (omega arith))
+
+  -- Where i's row is empty nobody makes a loose pair with i.
+  pub empty-row : (i : ℕ) → getD conflicts i 0 ≡ 0 → (k : ℕ) → pair i k ≡ false
+  empty-row i e k = rw (e, bit-zero k, and-false)
 
   -- A loose pair with none before it is the first; where there is none the answer is 4096.
   pub found : (i j : ℕ) (r : Bool) → i < 64 → j < 64 → None candidate (64 * i + j) → r ≡ pair i j → r ≡ true → 64 * i + j ≡ first 4096 candidate

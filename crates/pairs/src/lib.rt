@@ -79,14 +79,16 @@ pub fn clash(
     let mut found = 4096;
     'search: for i in 0..64 {
         let row = conflicts[i];
-        let mut left = sets::without(row, i);
-        while left != 0 {
-            let j = sets::lowest(left);
-            if unsettled(row, above, truths, falses, w, s, i, j) {
-                found = 64 * i + j;
-                break 'search;
+        if row != 0 {
+            let mut left = sets::without(row, i);
+            while left != 0 {
+                let j = sets::lowest(left);
+                if unsettled(row, above, truths, falses, w, s, i, j) {
+                    found = 64 * i + j;
+                    break 'search;
+                }
+                left = sets::without(left, j);
             }
-            left = sets::without(left, j);
         }
     }
     found

@@ -1,5 +1,6 @@
 -- `clash` finds the least loose pair: for each i, whoever was taken out of its row makes no loose pair with i, and the lowest left is the next.
 use mathlib.Core.Bool.{true}
+use mathlib.Core.Logic.{⊎-elim}
 use mathlib.Core.Path.{_≡_, refl, ap, _∙_}
 use Prim.Native.Nat.{ℕ, _+_, _-_, _*_, _^_, _≤_, _<_}
 use native.Mathlib.Nat.{not-suc-le-zero}
@@ -9,7 +10,7 @@ use Rattle.meaning.specs.Bytes.{bit}
 use Rattle.meaning.proofs.Below.{first-before}
 use Rattle.sets.proofs.Bits.{bit-zero}
 use Rattle.sets.proofs.Members.{lowest-in, falls}
-use Rattle.pairs.proofs.Candidates.{None, candidate, Out, out-row, out-more, up-to, found, not-found}
+use Rattle.pairs.proofs.Candidates.{None, candidate, Out, out-row, out-more, up-to, empty-row, found, not-found}
 use Rattle.pairs.proofs.clash.Statement.{statement}
 use Rattle.pairs.proofs.clash.Tie as tie
 
@@ -40,9 +41,10 @@ without-requires : tie.Need-without-requires Inv-loop μ-loop Inv-search μ-sear
 without-requires c κs = search needs
 
 loop-holds : tie.Need-loop-holds Inv-loop μ-loop Inv-search μ-search
-loop-holds c = 
-    let a = c .before .before .before .before .args in
-    (omega arith, refl, out-row (a .conflicts .now) (a .above .now) (a .truths .now) (a .falses .now) (a .w .now) (a .s .now) (c .before .before .before .search .i) (c .without .result) (c .without .ensures))
+loop-holds c =
+    let turn = c .before .before .before .before in
+    let a = turn .before .args in
+    (omega arith, refl, out-row (a .conflicts .now) (a .above .now) (a .truths .now) (a .falses .now) (a .w .now) (a .s .now) (turn .search .i) (c .without .result) (c .without .ensures))
 
 lowest-requires : tie.Need-lowest-requires Inv-loop μ-loop Inv-search μ-search
 lowest-requires c κs = search needs
@@ -73,13 +75,13 @@ loop-less c =
 loop-again : tie.Need-loop-again Inv-loop μ-loop Inv-search μ-search
 loop-again c = 
     let at = c .before .before .before .before .before .loop in
-    let turn = c .before .before .before .before .before .before .before .before .before in
+    let turn = c .before .before .before .before .before .before .before .before .before .before in
     let a = turn .before .args in
     let none = c .before .before .unsettled in (
       omega arith,
       at .inv .1,
       out-more (a .conflicts .now) (a .above .now) (a .truths .now) (a .falses .now) (a .w .now) (a .s .now) (turn .search .i) (c .before .before .before .lowest .result) (at .left) (c .without2 .result)
-          (none .result) (at .inv .2) (c .without2 .ensures) (none .ensures) (c .before .if1 .left),
+          (none .result) (at .inv .2) (c .without2 .ensures) (none .ensures) (c .before .if2 .left),
     )
 
 add-i : tie.Need-add-i Inv-loop μ-loop Inv-search μ-search
@@ -89,14 +91,19 @@ search-less : tie.Need-search-less Inv-loop μ-loop Inv-search μ-search
 search-less c = search needs
 
 search-again : tie.Need-search-again Inv-loop μ-loop Inv-search μ-search
-search-again c = 
-    let at = c .before .loop in
-    let turn = c .before .before .before .before .before in
+search-again c =
+    let turn = c .before .before .before in
     let a = turn .before .args in
     let i : ℕ = turn .search .i in
-    let row = up-to (a .conflicts .now) (a .above .now) (a .truths .now) (a .falses .now) (a .w .now) (a .s .now) i 64 (omega arith) (turn .search .inv .2)
-    (λ k l. at .inv .2 k l (ap (λ (x : ℕ). bit x k) (c .loop-test .left) ∙ bit-zero k)) in
-    (omega arith, at .inv .1 ∙ turn .search .inv .1, λ k m. row k (omega arith))
+    let row = up-to (a .conflicts .now) (a .above .now) (a .truths .now) (a .falses .now) (a .w .now) (a .s .now) i 64 (omega arith) (turn .search .inv .2) in
+    ⊎-elim
+    (λ w.
+    let all = row (λ k l. w .2 .inv .2 k l (ap (λ (x : ℕ). bit x k) (w .3 .left) ∙ bit-zero k)) in
+    (omega arith, w .4 ∙ w .2 .inv .1 ∙ turn .search .inv .1, λ k m. all k (omega arith)))
+    (λ w.
+    let all = row (λ k l. empty-row (a .conflicts .now) (a .above .now) (a .truths .now) (a .falses .now) (a .w .now) (a .s .now) i (w .0 .left) k) in
+    (omega arith, w .1 ∙ turn .search .inv .1, λ k m. all k (omega arith)))
+    (c .if1 .came)
 
 returns : tie.Need-returns Inv-loop μ-loop Inv-search μ-search
 returns c = 
@@ -107,7 +114,7 @@ returns c =
 returns-2 : tie.Need-returns-2 Inv-loop μ-loop Inv-search μ-search
 returns-2 c = 
     let at = c .before .before .before .before .loop in
-    let turn = c .before .before .before .before .before .before .before .before in
+    let turn = c .before .before .before .before .before .before .before .before .before in
     let a = turn .before .args in
     let i : ℕ = turn .search .i in
     let j : ℕ = c .before .before .lowest .result in
@@ -115,7 +122,7 @@ returns-2 c =
     let lowest = c .before .before .lowest .ensures in
     let none = up-to (a .conflicts .now) (a .above .now) (a .truths .now) (a .falses .now) (a .w .now) (a .s .now) i j (omega arith) (turn .search .inv .2)
     (λ k l. at .inv .2 k (omega arith) (first-before 64 (bit (at .left)) k (omega arith))) in
-    found (a .conflicts .now) (a .above .now) (a .truths .now) (a .falses .now) (a .w .now) (a .s .now) i j (c .before .unsettled .result) (omega arith) (omega arith) none (c .before .unsettled .ensures) (c .if1 .taken)
+    found (a .conflicts .now) (a .above .now) (a .truths .now) (a .falses .now) (a .w .now) (a .s .now) i j (c .before .unsettled .result) (omega arith) (omega arith) none (c .before .unsettled .ensures) (c .if2 .taken)
 
 pub clash-spec : {M : Type 1} → statement M
 clash-spec =
