@@ -30,7 +30,7 @@ abbrev μ-loop : tie.MeasureT-loop
 
 loop-holds : tie.Need-loop-holds Inv-loop μ-loop
 unfolding some
-loop-holds c = 
+loop-holds c =
     let empty = c .pre in
     (omega arith, rw empty (length-replicate {A = ℕ} 64 0), λ i j h. rw empty (ap (λ (x : ℕ). bit x j) (getD-replicate 64 i 0 0 h) ∙ bit-zero j))
 
@@ -51,11 +51,11 @@ loop-less c = search needs
 
 loop-again : tie.Need-loop-again Inv-loop μ-loop
 unfolding some
-loop-again c = 
+loop-again c =
     let at = c .before .before .before .loop in
     let takers : List ℕ = c .before .before .before .before .args .takers .now in
     let grows : (i j : ℕ) → i < 64 → (bit (getD (at .rows) i 0) j || both takers i j (at .p)) ≡ some (at .p + 1) (both takers i j) =
-      λ i j h. rw (at .inv .2 i j h, add-one (at .p)) in
+    λ i j h. rw (at .inv .2 i j h, add-one (at .p)) in
     ⊎-elim
     (λ w. rw (w .3) (omega arith, w .2 .ensures .size, λ i j h. w .2 .ensures .holds i j h ∙ grows i j h))
     (λ w.
@@ -67,7 +67,7 @@ loop-again c =
     (c .if1 .came)
 
 returns : tie.Need-returns Inv-loop μ-loop
-returns c = 
+returns c =
     let at = c .before .loop in
     let all : at .p ≡ 128 = omega arith in
     record { holds = λ i j h. rw (← all) (at .inv .2 i j h) }

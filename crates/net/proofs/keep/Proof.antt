@@ -47,7 +47,7 @@ index-2-s : tie.Need-index-2-s
 index-2-s c = cell-low c .1
 
 returns : tie.Need-returns
-returns c = 
+returns c =
     λ tb r reads kw ks.
     let x = c .before .before .before .before .args .x in
     let says = input-says x (c .before .input .result) (c .before .input .ensures) tb r reads ∙ c .if1 .taken in
@@ -58,7 +58,7 @@ returns c =
     )
 
 returns-2 : tie.Need-returns-2
-returns-2 c = 
+returns-2 c =
     λ tb r reads kw ks.
     let says = input-says _ (c .before .input .result) (c .before .input .ensures) tb r reads ∙ c .if1 .left in
     let test : Bool = is tb 3 r && ltb (tb .sort r) 3 in (

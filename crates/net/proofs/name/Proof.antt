@@ -43,7 +43,7 @@ element-write-rows : tie.Need-element-write-rows
 element-write-rows c = row-low (c .before .before .before)
 
 returns : tie.Need-returns
-returns c = 
+returns c =
     λ tb r reads g.
     let start = c .before .before .before .before .before .before .args in
     let kind : ℕ = start .kind in
@@ -57,7 +57,7 @@ returns c =
     (λ j l. c .with .ensures j ∙ rw (low-too (c .before .wide2 .result) j 64 l, c .before .wide2 .ensures, wide .ensures, reads .one, reads .two)))
 
 returns-2 : tie.Need-returns-2
-returns-2 c = 
+returns-2 c =
     λ tb r reads g.
     let start = c .before .before .before .args in
     let kind : ℕ = start .kind in

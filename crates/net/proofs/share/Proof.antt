@@ -47,12 +47,12 @@ without-requires : tie.Need-without-requires Inv-loop μ-loop
 without-requires c κs = search needs
 
 loop-less : tie.Need-loop-less Inv-loop μ-loop
-loop-less c = 
+loop-less c =
     let at = c .before .before .before .before .before .loop in
     falls (at .left) _ (c .without .result) (c .without .ensures) (at .inv .0) (omega arith) (member (c .before .before .before) .1)
 
 loop-again : tie.Need-loop-again Inv-loop μ-loop
-loop-again c = 
+loop-again c =
     let at = c .before .before .before .before .before .loop in
     let k = member (c .before .before .before) in
     let set : ℕ = c .before .before .before .before .before .before .args .set in (
@@ -64,7 +64,7 @@ loop-again c =
     )
 
 returns : tie.Need-returns Inv-loop μ-loop
-returns c = 
+returns c =
     let at = c .before .loop in
     record { size = at .inv .1; holds = λ t j h. none-due (at .rows) (at .left) (bit (c .before .before .args .set)) t j (c .loop-test .left) ∙ at .inv .2 t j }
 

@@ -68,12 +68,12 @@ without-requires-2 : tie.Need-without-requires-2 Inv-loop μ-loop Inv-search μ-
 without-requires-2 c κs = search needs
 
 loop-less : tie.Need-loop-less Inv-loop μ-loop Inv-search μ-search
-loop-less c = 
+loop-less c =
     let at = c .before .before .before .before .before .loop in
     falls (at .left) _ (c .without2 .result) (c .without2 .ensures) (at .inv .0) (omega arith) (member (c .before .before .before) .1)
 
 loop-again : tie.Need-loop-again Inv-loop μ-loop Inv-search μ-search
-loop-again c = 
+loop-again c =
     let at = c .before .before .before .before .before .loop in
     let turn = c .before .before .before .before .before .before .before .before .before .before in
     let a = turn .before .args in
@@ -106,13 +106,13 @@ search-again c =
     (c .if1 .came)
 
 returns : tie.Need-returns Inv-loop μ-loop Inv-search μ-search
-returns c = 
+returns c =
     let l = c .before .search in
     let a = c .before .before .args in
     not-found (a .conflicts .now) (a .above .now) (a .truths .now) (a .falses .now) (a .w .now) (a .s .now) (l .i) (l .found) (omega arith) (l .inv .1) (l .inv .2)
 
 returns-2 : tie.Need-returns-2 Inv-loop μ-loop Inv-search μ-search
-returns-2 c = 
+returns-2 c =
     let at = c .before .before .before .before .loop in
     let turn = c .before .before .before .before .before .before .before .before .before in
     let a = turn .before .args in

@@ -55,7 +55,7 @@ loop-less : tie.Need-loop-less Inv-loop μ-loop Inv-loop2 μ-loop2
 loop-less c = search needs
 
 loop-again : tie.Need-loop-again Inv-loop μ-loop Inv-loop2 μ-loop2
-loop-again c = 
+loop-again c =
     let at = c .before .before .before .loop in
     let index = c .before .before .before .before .args .index .now in
     let row : ℕ = getD index (512 + at .i) 0 in (
@@ -66,7 +66,7 @@ loop-again c =
     )
 
 loop2-holds : tie.Need-loop2-holds Inv-loop μ-loop Inv-loop2 μ-loop2
-loop2-holds c = 
+loop2-holds c =
     let at = c .before .loop in
     let index = c .before .before .args .index .now in
     let all : at .i ≡ 64 = omega arith in
@@ -85,7 +85,7 @@ loop2-less : tie.Need-loop2-less Inv-loop μ-loop Inv-loop2 μ-loop2
 loop2-less c = search needs
 
 loop2-again : tie.Need-loop2-again Inv-loop μ-loop Inv-loop2 μ-loop2
-loop2-again c = 
+loop2-again c =
     let at = c .before .before .before .loop2 in
     let index = c .before .before .before .before .before .before .args .index .now in
     let lower : ℕ = c .before .before .before .before .before .loop .lower in
@@ -100,7 +100,7 @@ loop2-again c =
     (c .if1 .came)
 
 returns : tie.Need-returns Inv-loop μ-loop Inv-loop2 μ-loop2
-returns c = 
+returns c =
     let all : c .before .loop2 .k ≡ 64 = omega arith in
     closing (rw all at (c .before .loop2 .inv .2))
 

@@ -27,10 +27,10 @@ element-copy-out-below c = c .pre .0
 
 loop-holds : tie.Need-loop-holds Inv-loop μ-loop
 loop-holds c = (
-    omega arith,
-    c .before .before .pre .0,
-    refl,
-    record { long = c .before .before .pre .1; below = λ v h. absurd (not-suc-le-zero h); above = λ v h. refl },
+  omega arith,
+  c .before .before .pre .0,
+  refl,
+  record { long = c .before .before .pre .1; below = λ v h. absurd (not-suc-le-zero h); above = λ v h. refl },
 )
 
 mul-has : tie.Need-mul-has Inv-loop μ-loop
