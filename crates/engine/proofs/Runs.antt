@@ -16,7 +16,7 @@ use Rattle.meaning.proofs.Decide.{decide-append, accepted-clean}
 use Rattle.meaning.proofs.Tables.{table-refusing}
 use Rattle.meaning.proofs.Run.{verdict, run-refused-leaves, run-goes-on}
 use Rattle.cycle.proofs.Facts.{sound, fine}
-use Rattle.net.specs.Rows.{Gathered, Weights, Sorts}
+use Rattle.net.specs.Rows.{Gathered, Filled}
 use Rattle.moves.specs.Moves.{Posts}
 use Rattle.timing.specs.declared.Intervals.{Intervals}
 use Rattle.timing.specs.Times.{Times-of}
@@ -24,33 +24,32 @@ use Rattle.fit.specs.Fit.{wrong-by}
 use Rattle.fit.proofs.Carry.{first-wrong-same}
 use Rattle.course.specs.Course.{Read, Ready, Ends}
 use Rattle.course.specs.declared.Ended.{Ended}
-use Rattle.engine.specs.declared.Judged.{Judged}
+use Rattle.engine.specs.declared.Finding.{Finding}
 use Rattle.engine.specs.Said.{Judges, lent-checks}
 use Rattle.engine.proofs.Starts.{refused-too, accepted-if}
 use Rattle.engine.proofs.Lent.{lent-same, long-is, fits-is, few-is, room-is}
 
 -- The table is accepted: its rows are read.
-module _ (bs : List ℕ) (j : Judged) (judged : Judges bs j) (zero-is : j .number ≡ 0) (x : Intervals) (times : Times-of (table bs) x)
-    (w s : List (List ℕ)) (weights : Weights (table bs) w) (sorts : Sorts (table bs) s) where
+module _ (bs : List ℕ) (j : Finding) (index higher : List ℕ) (judged : Judges bs j index higher) (zero-is : j .number ≡ 0) (x : Intervals)
+    (times : Times-of (table bs) x) where
   table-fine : check bs ≡ accepted 0
   table-fine = accepted-if bs (ap (λ (a : Answer). a .number) (sym (judged .answer)) ∙ zero-is)
 
-  pub read : (posts : List (List ℕ)) → Posts (table bs) posts → (takers : List ℕ) → Gathered (table bs) 3 0 takers
-      → (putters : List ℕ) → Gathered (table bs) 3 3 putters → (truths : List ℕ) → Gathered (table bs) 4 0 truths
-      → (falses : List ℕ) → Gathered (table bs) 4 1 falses → Read bs x (j .rows) (j .above) w s posts takers putters truths falses
-  read posts posts-hold takers takers-hold putters putters-hold truths truths-hold falses falses-hold =
+  pub read : (w s : List (List ℕ)) (takers truths falses : List ℕ) → Filled (table bs) w s takers truths falses → (posts : List (List ℕ)) (putters : List ℕ)
+      → Posts (table bs) posts → Gathered (table bs) 3 3 putters → Read bs x index higher w s posts takers putters truths falses
+  read w s takers truths falses filled posts putters posts-hold putters-hold =
       record {
         sound = table-fine;
-        index-holds = judged .index zero-is;
+        index-holds = judged .indexed zero-is;
         times = times;
-        higher-is = judged .higher zero-is;
-        weights = weights;
-        sorts = sorts;
+        higher-is = judged .higher-is zero-is;
+        weights = filled .weights;
+        sorts = filled .sorts;
         posts-hold = posts-hold;
-        takers-hold = takers-hold;
+        takers-hold = filled .takers-hold;
         putters-hold = putters-hold;
-        truths-hold = truths-hold;
-        falses-hold = falses-hold;
+        truths-hold = filled .truths-hold;
+        falses-hold = filled .falses-hold;
       }
 
 module _ (bs img ws report : List ℕ) where
@@ -74,37 +73,37 @@ module _ (bs img ws report : List ℕ) where
   refused-by-table e n =
       refuses (in-order ∙ refused-too (table-checks bs) behind (λ z. n (ap (λ (b : Answer). b .number) e ∙ z)) ∙ sym e) n
 
-  module _ (j : Judged) (judged : Judges bs j) (zero-is : j .number ≡ 0) (x : Intervals) (times : Times-of (table bs) x) (w s : List (List ℕ))
-      (weights : Weights (table bs) w) (sorts : Sorts (table bs) s) where
+  module _ (j : Finding) (index higher : List ℕ) (judged : Judges bs j index higher) (zero-is : j .number ≡ 0) (x : Intervals)
+      (times : Times-of (table bs) x) where
     accepts : check bs ≡ accepted 0
-    accepts = table-fine bs j judged zero-is x times w s weights sorts
+    accepts = table-fine bs j index higher judged zero-is x times
 
-    same-wrong : first 192 (wrong-by img (j .rows) x) ≡ first 192 (wrong (table bs) (image img))
+    same-wrong : first 192 (wrong-by img index x) ≡ first 192 (wrong (table bs) (image img))
     same-wrong =
-        first-wrong-same (table bs) (j .rows) (record { fine = fine bs accepts; index = judged .index zero-is }) (sound bs accepts) x times img
+        first-wrong-same (table bs) index (record { fine = fine bs accepts; index = judged .indexed zero-is }) (sound bs accepts) x times img
 
-    lent-decides : decide (lent-checks img ws report (j .rows) x) (accepted 0) ≡ verdict bs img ws report
+    lent-decides : decide (lent-checks img ws report index x) (accepted 0) ≡ verdict bs img ws report
     unfolding check
     lent-decides =
-        lent-same img ws report (j .rows) x (table bs) same-wrong
+        lent-same img ws report index x (table bs) same-wrong
         ∙ sym (in-order ∙ decide-append (table-checks bs) behind (accepted 0) (accepted-clean (table-checks bs) (accepted 0) (table-refusing bs) zero-table))
       where
         zero-table : decide (table-checks bs) (accepted 0) .number ≡ 0
         zero-table = ap (λ (a : Answer). a .number) accepts
 
     -- Something is said of the lent bytes: that is the answer.
-    pub refused-by-lent : {a : Answer} → a ≡ decide (lent-checks img ws report (j .rows) x) (accepted 0) → a .number ≢ 0 → Ran bs img ws report a img report
+    pub refused-by-lent : {a : Answer} → a ≡ decide (lent-checks img ws report index x) (accepted 0) → a .number ≢ 0 → Ran bs img ws report a img report
     refused-by-lent e n = refuses (sym lent-decides ∙ sym e) n
 
     -- Nothing is: the cycles may be done, and what they leave is what run leaves.
-    module _ (none : decide (lent-checks img ws report (j .rows) x) (accepted 0) .number ≡ 0) where
+    module _ (none : decide (lent-checks img ws report index x) (accepted 0) .number ≡ 0) where
       pub ready : Ready bs img ws report
       ready =
           record {
-            long = long-is img ws report (j .rows) x none;
-            fits = sym same-wrong ∙ fits-is img ws report (j .rows) x none;
-            few = few-is img ws report (j .rows) x none;
-            room = room-is img ws report (j .rows) x none;
+            long = long-is img ws report index x none;
+            fits = sym same-wrong ∙ fits-is img ws report index x none;
+            few = few-is img ws report index x none;
+            room = room-is img ws report index x none;
           }
 
       pub ran-through : (e : Ended) (img′ report′ : List ℕ) → Ends bs img ws report e img′ report′

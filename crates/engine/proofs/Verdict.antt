@@ -28,14 +28,14 @@ use Rattle.meaning.proofs.Tables.{arc-transition}
 use Rattle.table.specs.declared.Pass.{Pass}
 use Rattle.table.specs.Index.{Scanned, names-unknown-at, none-of, lone}
 use Rattle.table.proofs.Carry.{Clean, clean-of, unknown-same, none-same, lone-same, written-bit}
-use Rattle.net.specs.Rows.{Weights, Sorts}
+use Rattle.net.specs.Rows.{Conflicts, Filled}
 use Rattle.net.proofs.Carry.{conflict-bit, complementary-bits, inhibits-same}
 use Rattle.priority.specs.Closed.{Closed}
 use Rattle.priority.proofs.Carry.{above-bit, circle-same}
 use Rattle.pairs.specs.Settled.{loose}
 use Rattle.pairs.proofs.Carry.{Say, least-pair, no-pair}
-use Rattle.engine.specs.declared.Judged.{Judged}
-use Rattle.engine.specs.Said.{Judges, Least}
+use Rattle.engine.specs.declared.Finding.{Finding}
+use Rattle.engine.specs.Said.{Judges}
 use Rattle.engine.proofs.Stages.{answer-2, answer-5, answer-6, answer-7, answer-8, answer-9, answer-0}
 
 -- What a shown arc weighs, and the ranges of a shown condition.
@@ -46,14 +46,14 @@ shown-wanted : {o t s f x : ℕ} → Shown 4 o t s f x → (o ≤ 63) × (t ≤ 
 shown-wanted (Shown.condition a b c) = (a, b, c)
 
 -- A refusal says nothing of the rows.
-pub refusal : (bs : List ℕ) (j : Judged) → 0 < j .number → refused (j .number) (j .at) ≡ check bs → Judges bs j
-refusal bs j l e = record { answer = e; index = λ z. absurd (omega arith); higher = λ z. absurd (omega arith) }
+pub refusal : (bs : List ℕ) (j : Finding) (index higher : List ℕ) → 0 < j .number → refused (j .number) (j .at) ≡ check bs → Judges bs j index higher
+refusal bs j index higher l e = record { answer = e; indexed = λ z. absurd (omega arith); higher-is = λ z. absurd (omega arith) }
 
 -- A search that stays below its end and one that reaches it.
 pub reached : (n : ℕ) (p : ℕ → Bool) {k : ℕ} → k ≡ first n p → n ≤ k → first n p ≡ n
 reached n p e l = omega (arith, first-le n p)
 
-module _ (bs : List ℕ) (right : bad-length bs ≡ false) (s : Pass) (scanned : Scanned (table bs) s) where
+module _ (bs : List ℕ) (right : bad-length bs ≡ false) (s : Pass) (index : List ℕ) (scanned : Scanned (table bs) s index) where
   -- 2, 3 or 4 at the first record that meets one.
   pub verdict-2 : s .at < table bs .records → (0 < s .number) × (refused (s .number) (s .at) ≡ check bs)
   unfolding faulty
@@ -69,41 +69,41 @@ module _ (bs : List ℕ) (right : bad-length bs ≡ false) (s : Pass) (scanned :
     no-fault : first (table bs .records) (faulty (table bs)) ≡ table bs .records
     no-fault = reached (table bs .records) (faulty (table bs)) (scanned .at) whole
 
-    pub clean : Clean (table bs) (s .rows)
-    clean = clean-of (table bs) s scanned (scanned .number ∙ rw (le-ltb (s .at) (table bs .records) whole))
+    pub clean : Clean (table bs) index
+    clean = clean-of (table bs) s index scanned (scanned .number ∙ rw (le-ltb (s .at) (table bs .records) whole))
 
     -- What a record without a fault shows.
     sound : (r : ℕ) → r < table bs .records → Shows (table bs) r × (twice (table bs) r ≡ false)
     sound r h = faultless (table bs) r (first-before (table bs .records) (faulty (table bs)) r (omega (arith, no-fault)))
 
-    unknowns : first (table bs .records) (names-unknown-at (table bs) (s .rows)) ≡ first (table bs .records) (unknown (table bs))
+    unknowns : first (table bs .records) (names-unknown-at (table bs) index) ≡ first (table bs .records) (unknown (table bs))
     unknowns = first-same (table bs .records) _ _ (unknown-same clean)
 
-    pub verdict-5 : (u : ℕ) → u ≡ first (table bs .records) (names-unknown-at (table bs) (s .rows)) → u < table bs .records
+    pub verdict-5 : (u : ℕ) → u ≡ first (table bs .records) (names-unknown-at (table bs) index) → u < table bs .records
         → refused 5 u ≡ check bs
     verdict-5 u e l =
         let same = e ∙ unknowns in
         ap (refused 5) same ∙ sym (answer-5 bs right no-fault (omega arith))
 
-    module _ (u : ℕ) (eu : u ≡ first (table bs .records) (names-unknown-at (table bs) (s .rows))) (pu : table bs .records ≤ u) where
+    module _ (u : ℕ) (eu : u ≡ first (table bs .records) (names-unknown-at (table bs) index)) (pu : table bs .records ≤ u) where
       all-known : first (table bs .records) (unknown (table bs)) ≡ table bs .records
       all-known = reached (table bs .records) (unknown (table bs)) (eu ∙ unknowns) pu
 
-      pub verdict-6 : (k : ℕ) → k ≡ first 2 (none-of (s .rows)) → k < 2 → refused 6 k ≡ check bs
+      pub verdict-6 : (k : ℕ) → k ≡ first 2 (none-of index) → k < 2 → refused 6 k ≡ check bs
       verdict-6 k e l =
           let same = e ∙ first-same 2 _ _ (none-same clean) in
           ap (refused 6) same ∙ sym (answer-6 bs right no-fault all-known (omega arith))
 
-      module _ (k : ℕ) (ek : k ≡ first 2 (none-of (s .rows))) (pk : 2 ≤ k) where
+      module _ (k : ℕ) (ek : k ≡ first 2 (none-of index)) (pk : 2 ≤ k) where
         not-empty : first 2 (empty (table bs)) ≡ 2
         not-empty = reached 2 (empty (table bs)) (ek ∙ first-same 2 _ _ (none-same clean)) pk
 
-        pub verdict-7 : (l : ℕ) → l ≡ first 192 (lone (s .rows)) → l < 192 → refused 7 l ≡ check bs
+        pub verdict-7 : (l : ℕ) → l ≡ first 192 (lone index) → l < 192 → refused 7 l ≡ check bs
         verdict-7 l e h =
             let same = e ∙ first-same 192 _ _ (lone-same clean) in
             ap (refused 7) same ∙ sym (answer-7 bs right no-fault all-known not-empty (omega arith))
 
-        module _ (l : ℕ) (el : l ≡ first 192 (lone (s .rows))) (pl : 192 ≤ l) (higher : List ℕ) (closed : Closed (s .rows) higher) where
+        module _ (l : ℕ) (el : l ≡ first 192 (lone index)) (pl : 192 ≤ l) (higher : List ℕ) (closed : Closed index higher) where
           none-lone : first 192 (isolated (table bs)) ≡ 192
           none-lone = reached 192 (isolated (table bs)) (el ∙ first-same 192 _ _ (lone-same clean)) pl
 
@@ -113,18 +113,19 @@ module _ (bs : List ℕ) (right : bad-length bs ≡ false) (s : Pass) (scanned :
               (omega (arith, shown .0), omega (arith, shown .1))
 
           pub above-is : (i j : ℕ) → i < 64 → j < 64 → bit (getD higher i 0) j ≡ above (table bs) i j
-          above-is = above-bit (table bs) (s .rows) (written-bit clean) low closed
+          above-is = above-bit (table bs) index (written-bit clean) low closed
 
           circles : first 64 (λ t. bit (getD higher t 0) t) ≡ first 64 (circle (table bs))
-          circles = circle-same (table bs) (s .rows) (written-bit clean) low closed
+          circles = circle-same (table bs) index (written-bit clean) low closed
 
           pub verdict-8 : (o : ℕ) → o ≡ first 64 (λ t. bit (getD higher t 0) t) → o < 64 → refused 8 o ≡ check bs
           verdict-8 o e h =
               let same = e ∙ circles in
               ap (refused 8) same ∙ sym (answer-8 bs right no-fault all-known not-empty none-lone (omega arith))
 
-          module _ (o : ℕ) (eo : o ≡ first 64 (λ t. bit (getD higher t 0) t)) (po : 64 ≤ o) (w so : List (List ℕ)) (weights : Weights (table bs) w)
-              (sorts : Sorts (table bs) so) (q : ℕ) (least : Least (table bs) higher w so q) where
+          module _ (o : ℕ) (eo : o ≡ first 64 (λ t. bit (getD higher t 0) t)) (po : 64 ≤ o) (w so : List (List ℕ)) (takers truths falses : List ℕ)
+              (filled : Filled (table bs) w so takers truths falses) (conflicts : List ℕ) (conflicting : Conflicts takers conflicts) (q : ℕ)
+              (least : q ≡ first 4096 (loose conflicts higher truths falses w so)) where
             no-circle : first 64 (circle (table bs)) ≡ 64
             no-circle = reached 64 (circle (table bs)) (eo ∙ circles) po
 
@@ -153,14 +154,14 @@ module _ (bs : List ℕ) (right : bad-length bs ≡ false) (s : Pass) (scanned :
                 let range = shown-arc shown in
                 (omega (arith, range .0), omega (arith, range .1), shown-weight shown, range .2)
 
-            say : Say (table bs) (least .conflicts) higher (least .truths) (least .falses) w so
+            say : Say (table bs) conflicts higher truths falses w so
             say =
                 record {
-                  conflicting = conflict-bit (table bs) (least .takers) (least .conflicts) (least .takers-hold) (least .conflicts-hold)
+                  conflicting = conflict-bit (table bs) takers conflicts (filled .takers-hold) conflicting
                       (λ r h e. (arcs r h e .0, arcs r h e .1));
                   higher = above-is;
-                  contrary = complementary-bits (table bs) (least .truths) (least .falses) (least .truths-hold) (least .falses-hold) conditions;
-                  stopping = inhibits-same (table bs) w so weights sorts arcs single;
+                  contrary = complementary-bits (table bs) truths falses (filled .truths-hold) (filled .falses-hold) conditions;
+                  stopping = inhibits-same (table bs) w so (filled .weights) (filled .sorts) arcs single;
                 }
               where
                 conditions : (r : ℕ) → r < table bs .records → table bs .kind r ≡ 4
@@ -180,11 +181,11 @@ module _ (bs : List ℕ) (right : bad-length bs ≡ false) (s : Pass) (scanned :
 
             pub verdict-9 : q < 4096 → refused 9 q ≡ check bs
             verdict-9 h =
-                let found = least-pair (table bs) (least .conflicts) higher (least .truths) (least .falses) w so say declared (rw (sym (least .least)) h) in
-                ap (refused 9) (least .least ∙ found .1) ∙ sym (answer-9 bs right no-fault all-known not-empty none-lone no-circle (found .0))
+                let found = least-pair (table bs) conflicts higher truths falses w so say declared (rw (sym least) h) in
+                ap (refused 9) (least ∙ found .1) ∙ sym (answer-9 bs right no-fault all-known not-empty none-lone no-circle (found .0))
 
             pub verdict-0 : 4096 ≤ q → refused 0 0 ≡ check bs
             verdict-0 h =
-                let none = no-pair (table bs) (least .conflicts) higher (least .truths) (least .falses) w so say
-                (reached 4096 (loose (least .conflicts) higher (least .truths) (least .falses) w so) (least .least) h) in
+                let none = no-pair (table bs) conflicts higher truths falses w so say
+                (reached 4096 (loose conflicts higher truths falses w so) least h) in
                 sym (answer-0 bs right no-fault all-known not-empty none-lone no-circle (first-none 64 (clashes (table bs)) none))

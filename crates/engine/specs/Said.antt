@@ -5,21 +5,18 @@ use mathlib.Core.Path.{_≡_}
 use Prim.Native.Nat.{ℕ, _+_, _*_, _/_, _%_, _<_}
 use lib.Dec.{eqb, ltb}
 use lib.ListN.{length, getD, set}
-use Rattle.meaning.specs.Below.{first}
 use Rattle.meaning.specs.Bytes.{bit}
-use Rattle.meaning.specs.Table.{Table, table}
+use Rattle.meaning.specs.Table.{table}
 use Rattle.meaning.specs.Answer as meaning
 use Rattle.meaning.specs.Priority.{above}
 use Rattle.meaning.specs.Defined.{check}
 use Rattle.meaning.specs.Calls.{word-checks}
 use Rattle.records.specs.declared.Rec.{Rec}
 use Rattle.table.specs.Index.{Indexed}
-use Rattle.net.specs.Rows.{Gathered, Conflicts}
-use Rattle.pairs.specs.Settled.{loose}
 use Rattle.timing.specs.declared.Intervals.{Intervals}
 use Rattle.fit.specs.Fit.{wrong-by}
 use Rattle.engine.specs.declared.Answer.{Answer}
-use Rattle.engine.specs.declared.Judged.{Judged}
+use Rattle.engine.specs.declared.Finding.{Finding}
 
 -- The answer that a call's struct holds: number, where and cycles done.
 abbrev pub said : Answer → meaning.Answer
@@ -27,22 +24,10 @@ said a = record { number = a .number; at = a .at; cycles = a .cycles }
 
 -- What the stages of a table come to: its answer; and, where it is accepted, the index holds all its records and the rows are the closed
 -- priority.
-pub record Judges (bs : List ℕ) (j : Judged) : Type 0 where
+pub record Judges (bs : List ℕ) (j : Finding) (index higher : List ℕ) : Type 0 where
   pub answer : meaning.refused (j .number) (j .at) ≡ check bs
-  pub index : j .number ≡ 0 → Indexed (table bs) (table bs .records) (j .rows)
-  pub higher : j .number ≡ 0 → (u t : ℕ) → u < 64 → t < 64 → bit (getD (j .above) u 0) t ≡ above (table bs) u t
-
--- The first candidate that the rows of the table leave loose.
-pub record Least (tb : Table) (higher : List ℕ) (w s : List (List ℕ)) (k : ℕ) : Type 0 where
-  pub takers : List ℕ
-  pub conflicts : List ℕ
-  pub truths : List ℕ
-  pub falses : List ℕ
-  pub takers-hold : Gathered tb 3 0 takers
-  pub conflicts-hold : Conflicts tb takers conflicts
-  pub truths-hold : Gathered tb 4 0 truths
-  pub falses-hold : Gathered tb 4 1 falses
-  pub least : k ≡ first 4096 (loose conflicts higher truths falses w s)
+  pub indexed : j .number ≡ 0 → Indexed (table bs) (table bs .records) index
+  pub higher-is : j .number ≡ 0 → (u t : ℕ) → u < 64 → t < 64 → bit (getD higher u 0) t ≡ above (table bs) u t
 
 -- A record that declares a place stores its first tokens in the place's two bytes; any other stores nothing.
 unfoldable pub put-of : List ℕ → Rec → List ℕ

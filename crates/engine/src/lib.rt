@@ -10,8 +10,8 @@ ghost use Rattle.meaning.specs.Table.{table};
 ghost use Rattle.meaning.specs.Defined.{bad-length, check};
 ghost use Rattle.meaning.specs.Image.{image-bytes, fresh};
 ghost use Rattle.meaning.specs.Promise.{Checked, Started, Ran, Looked-up};
-ghost use Rattle.net.specs.Rows.{Weights, Sorts};
-ghost use Rattle.engine.specs.Said.{said, Judges, Least, put-of, lent-checks};
+ghost use Rattle.net.specs.Rows.{Filled};
+ghost use Rattle.engine.specs.Said.{said, Judges, put-of, lent-checks};
 
 // An answer: its number (0 accepted), the page's where, the cycles done.
 pub struct Answer {
@@ -20,98 +20,78 @@ pub struct Answer {
     pub cycles: usize,
 }
 
-// A table's answer from 2 on, and what the stages found on the way: the index of its records and the closed priority.
-struct Judged {
+// An answer before any cycle: its number and where.
+struct Finding {
     number: usize,
     at: usize,
-    rows: [u64; 768],
-    above: [u64; 64],
 }
 
-// The least pair in conflict that nothing settles, 64i + j, or 4096.
-fn least_pair(t: &[u8], above: &[u64; 64], w: &[[u16; 64]; 128], s: &[[u8; 64]; 128]) -> usize
-    ensures { λ k. ⌜ Least (table (now (t .entry))) (now (above .entry)) (now (w .entry)) (now (s .entry)) k ⌝ }
-{
-    let takers = net::gather(t, 3, 0);
-    let conflicts = net::conflicts(t, &takers);
-    let truths = net::gather(t, 4, 0);
-    let falses = net::gather(t, 4, 1);
-    pairs::clash(&conflicts, above, &truths, &falses, w, s)
-}
-
-// Answers 2 to 9 of a table whose length is right, one stage after the other.
-fn judge(t: &[u8], w: &[[u16; 64]; 128], s: &[[u8; 64]; 128]) -> Judged
+// Answers 2 to 9 of a table whose length is right, one stage after the other, by the rows that are filled from it. The index and the rows of
+// the closed priority are lent to be filled on the way.
+fn judge(
+    t: &[u8],
+    index: &mut [u64; 768],
+    above: &mut [u64; 64],
+    w: &[[u16; 64]; 128],
+    s: &[[u8; 64]; 128],
+    takers: &[u64; 128],
+    truths: &[u64; 128],
+    falses: &[u64; 128],
+) -> Finding
     requires { ⌜ bad-length (now t) ≡ false ⌝ }
-    requires { ⌜ Weights (table (now t)) (now w) ⌝ }
-    requires { ⌜ Sorts (table (now t)) (now s) ⌝ }
-    ensures { λ j. ⌜ Judges (now (t .entry)) j ⌝ }
+    requires { ⌜ Filled (table (now t)) (now w) (now s) (now takers) (now truths) (now falses) ⌝ }
+    requires { ⌜ now index ≡ replicate 768 0 ⌝ }
+    requires { ⌜ length (now above) ≡ 64 ⌝ }
+    ensures { λ j. ⌜ Judges (now (t .entry)) j (now (index .exit)) (now (above .exit)) ⌝ }
 {
     let n = t.len() / 8;
-    let pass = table::scan(t);
-    let number = pass.number;
+    let pass = table::scan(t, index);
     let at = pass.at;
-    let rows = pass.rows;
-    let none = [0u64; 64];
     if at < n {
-        return Judged {
-            number: records::wide(number),
+        return Finding {
+            number: records::wide(pass.number),
             at,
-            rows,
-            above: none,
         };
     }
-    let unknown = table::first_unknown(t, &rows);
+    let unknown = table::first_unknown(t, index);
     if unknown < n {
-        return Judged {
+        return Finding {
             number: 5,
             at: unknown,
-            rows,
-            above: none,
         };
     }
-    let missing = table::first_none(&rows);
+    let missing = table::first_none(index);
     if missing < 2 {
-        return Judged {
+        return Finding {
             number: 6,
             at: missing,
-            rows,
-            above: none,
         };
     }
-    let lone = table::first_lone(&rows);
+    let lone = table::first_lone(index);
     if lone < 192 {
-        return Judged {
+        return Finding {
             number: 7,
             at: lone,
-            rows,
-            above: none,
         };
     }
-    let above = priority::close(&rows);
-    let circle = priority::circle(&above);
+    priority::close(index, above);
+    let circle = priority::circle(above);
     if circle < 64 {
-        return Judged {
+        return Finding {
             number: 8,
             at: circle,
-            rows,
-            above,
         };
     }
-    let pair = least_pair(t, &above, w, s);
+    let mut conflicts = [0u64; 64];
+    net::conflicts(takers, &mut conflicts);
+    let pair = pairs::clash(&conflicts, above, truths, falses, w, s);
     if pair < 4096 {
-        return Judged {
+        return Finding {
             number: 9,
             at: pair,
-            rows,
-            above,
         };
     }
-    Judged {
-        number: 0,
-        at: 0,
-        rows,
-        above,
-    }
+    Finding { number: 0, at: 0 }
 }
 
 // check: answers 1 to 9 in the page's order, or accepted.
@@ -132,9 +112,15 @@ pub fn check(t: &[u8]) -> Answer
             cycles: 0,
         };
     }
-    let w = net::weights(t);
-    let s = net::sorts(t);
-    let j = judge(t, &w, &s);
+    let mut w = [[0u16; 64]; 128];
+    let mut s = [[0u8; 64]; 128];
+    let mut takers = [0u64; 128];
+    let mut truths = [0u64; 128];
+    let mut falses = [0u64; 128];
+    net::fill(t, &mut w, &mut s, &mut takers, &mut truths, &mut falses);
+    let mut index = [0u64; 768];
+    let mut above = [0u64; 64];
+    let j = judge(t, &mut index, &mut above, &w, &s, &takers, &truths, &falses);
     Answer {
         number: j.number,
         at: j.at,
@@ -211,12 +197,6 @@ pub fn start(t: &[u8], image: &mut [u8]) -> Answer
     a
 }
 
-// An answer before any cycle: its number and where.
-struct Finding {
-    number: usize,
-    at: usize,
-}
-
 // Answers 10, 11 and 12 of what is lent beside an accepted table, by its index and its intervals.
 fn judge_lent(
     image: &[u8],
@@ -271,9 +251,15 @@ pub fn run(t: &[u8], image: &mut [u8], words: &[u8], report: &mut [u8]) -> Answe
             cycles: 0,
         };
     }
-    let w = net::weights(t);
-    let s = net::sorts(t);
-    let j = judge(t, &w, &s);
+    let mut w = [[0u16; 64]; 128];
+    let mut s = [[0u8; 64]; 128];
+    let mut takers = [0u64; 128];
+    let mut truths = [0u64; 128];
+    let mut falses = [0u64; 128];
+    net::fill(t, &mut w, &mut s, &mut takers, &mut truths, &mut falses);
+    let mut index = [0u64; 768];
+    let mut above = [0u64; 64];
+    let j = judge(t, &mut index, &mut above, &w, &s, &takers, &truths, &falses);
     if j.number != 0 {
         return Answer {
             number: j.number,
@@ -281,8 +267,6 @@ pub fn run(t: &[u8], image: &mut [u8], words: &[u8], report: &mut [u8]) -> Answe
             cycles: 0,
         };
     }
-    let index = j.rows;
-    let above = j.above;
     let x = timing::times(t);
     let v = judge_lent(image, words, report, &index, x);
     if v.number != 0 {
@@ -292,11 +276,9 @@ pub fn run(t: &[u8], image: &mut [u8], words: &[u8], report: &mut [u8]) -> Answe
             cycles: 0,
         };
     }
-    let posts = moves::posts(t);
-    let takers = net::gather(t, 3, 0);
-    let putters = net::gather(t, 3, 3);
-    let truths = net::gather(t, 4, 0);
-    let falses = net::gather(t, 4, 1);
+    let mut posts = [[0u16; 64]; 128];
+    let mut putters = [0u64; 128];
+    moves::posts(t, &mut posts, &mut putters);
     let e = course::course(
         t,
         image,

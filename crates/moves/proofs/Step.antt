@@ -23,7 +23,7 @@ use Rattle.sets.proofs.Bits.{bit-and}
 use Rattle.records.specs.Record.{Reads}
 use Rattle.records.specs.declared.Rec.{Rec}
 use Rattle.net.specs.Rows.{latest, input}
-use Rattle.net.proofs.Step.{Kept}
+use Rattle.net.specs.Grow.{Kept}
 use Rattle.moves.specs.Moves.{Posts}
 
 -- The table with its post arcs as input arcs, and no others.

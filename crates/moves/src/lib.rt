@@ -5,11 +5,12 @@ ghost use mathlib.Core.Bool.{cond, _&&_};
 ghost use mathlib.Core.Path.{_≡_};
 ghost use Prim.Native.Nat.{ℕ, _≤_};
 ghost use lib.Dec.{eqb, ltb};
-ghost use lib.ListN.{length, getD};
+ghost use lib.ListN.{length, getD, replicate};
 ghost use Rattle.meaning.specs.Below.{some, sum};
 ghost use Rattle.meaning.specs.Bytes.{bit};
 ghost use Rattle.meaning.specs.Table.{table};
 ghost use Rattle.places.specs.Set.{has};
+ghost use Rattle.net.specs.Rows.{Gathered};
 ghost use Rattle.moves.specs.Moves.{Posts, at-words, Moved};
 
 // Is x a post arc, from a transition below 64 to a place below 128?
@@ -27,12 +28,14 @@ fn post(x: Rec) -> bool
     }
 }
 
-// The weight of the post arc from each transition to each place, 0 where there is none.
-pub fn posts(t: &[u8]) -> [[u16; 64]; 128]
-    ensures { λ w. ⌜ Posts (table (now (t .entry))) w ⌝ }
+// One pass over the records fills the rows that are lent empty: the weight of the post arc from each transition to each place, and who puts
+// to each place.
+pub fn posts(t: &[u8], w: &mut [[u16; 64]; 128], putters: &mut [u64; 128])
+    requires { ⌜ now w ≡ replicate 128 (replicate 64 0) ⌝ }
+    requires { ⌜ now putters ≡ replicate 128 0 ⌝ }
+    ensures { λ _. ⌜ Posts (table (now (t .entry))) (now (w .exit)) × Gathered (table (now (t .entry))) 3 3 (now (putters .exit)) ⌝ }
 {
     let n = t.len() / 8;
-    let mut w = [[0u16; 64]; 128];
     let mut r = 0;
     while r < n {
         let x = records::read(t, r);
@@ -41,9 +44,9 @@ pub fn posts(t: &[u8]) -> [[u16; 64]; 128]
         if post(x) {
             w[one][two] = x.four;
         }
+        net::name(putters, x, 3, 3);
         r += 1;
     }
-    w
 }
 
 // A weight as a number of tokens.

@@ -43,27 +43,6 @@ each a b c d e =
 all : {a b c d : Bool} → a ≡ true → b ≡ true → c ≡ true → d ≡ true → (a && b && c && d) ≡ true
 all p q r s = and-true (and-true (and-true p q) r) s
 
--- Conflicts: who takes from a place is who has a basic arc from it.
-pub conflict-bit : (tb : Table) (takers rows : List ℕ) → Gathered tb 3 0 takers → Conflicts tb takers rows
-    → ((r : ℕ) → r < tb .records → tb .kind r ≡ 3 → (tb .one r < 128) × (tb .two r < 64)) → (i j : ℕ) → i < 64 → j < 64
-    → bit (getD rows i 0) j ≡ conflict tb i j
-unfolding conflict some-two
-conflict-bit tb takers rows g c arcs i j hi hj =
-    c .holds i j hi hj
-    ∙ some-same (tb .records) (λ r. basic tb r && eqb (tb .two r) i && bit (getD takers (tb .one r) 0) j)
-    (λ r. basic tb r && eqb (tb .two r) i && some (tb .records) (with r))
-    (λ r h. behind (basic tb r && eqb (tb .two r) i) (bit (getD takers (tb .one r) 0) j) (some (tb .records) (with r)) (λ e. taken r h e))
-  where
-    with : ℕ → ℕ → Bool
-    with r s = basic tb s && eqb (tb .two s) j && eqb (tb .one s) (tb .one r)
-
-    taken : (r : ℕ) → r < tb .records → (basic tb r && eqb (tb .two r) i) ≡ true → bit (getD takers (tb .one r) 0) j ≡ some (tb .records) (with r)
-    taken r h e =
-        let kind : tb .kind r ≡ 3 = eqb-true (tb .kind r) 3 (and-left (is tb 3 r) (eqb (tb .sort r) 0) (and-left (basic tb r) (eqb (tb .two r) i) e)) in
-        g .holds (tb .one r) j (arcs r h kind .0) hj
-        ∙ some-same (tb .records) (λ s. basic tb s && eqb (tb .one s) (tb .one r) && eqb (tb .two s) j) (with r)
-        (λ s l. swap (basic tb s) (eqb (tb .one s) (tb .one r)) (eqb (tb .two s) j))
-
 -- A record of a kind and sort, with bytes 1 and 2.
 abbrev Named : Table → ℕ → ℕ → ℕ → ℕ → ℕ → Type 0
 Named tb kind sort x y r = (r < tb .records) × (tb .kind r ≡ kind) × (tb .sort r ≡ sort) × (tb .one r ≡ x) × (tb .two r ≡ y)
@@ -81,6 +60,43 @@ module _ (tb : Table) (kind sort : ℕ) (rows : List ℕ) (g : Gathered tb kind 
   record-bit r n =
       g .holds x y hx hy
       ∙ some-intro (tb .records) _ r (n .0) (all (eq-eqb _ _ (n .1)) (eq-eqb _ _ (n .2)) (eq-eqb _ _ (n .3)) (eq-eqb _ _ (n .4)))
+
+-- Conflicts: who takes from a place is who has a basic arc from it.
+module _ (tb : Table) (takers rows : List ℕ) (g : Gathered tb 3 0 takers) (c : Conflicts takers rows)
+    (arcs : (r : ℕ) → r < tb .records → tb .kind r ≡ 3 → (tb .one r < 128) × (tb .two r < 64)) (i j : ℕ) (hi : i < 64) (hj : j < 64) where
+  abbrev both-take : ℕ → Bool
+  both-take p = bit (getD takers p 0) i && bit (getD takers p 0) j
+
+  conflict-there : some 128 both-take ≡ true → conflict tb i j ≡ true
+  unfolding conflict
+  conflict-there e =
+      let w = some-elim 128 both-take e in
+      let one = bit-record tb 3 0 takers g (w .0) i (w .1) hi (and-left _ (bit (getD takers (w .0) 0) j) (w .2)) in
+      let two = bit-record tb 3 0 takers g (w .0) j (w .1) hj (and-right (bit (getD takers (w .0) 0) i) _ (w .2)) in
+      let r = one .1 in
+      let s = two .1 in
+      two-intro (tb .records) _ _ (one .0) (two .0) (r .0) (s .0) (and-true (and-true (eq-eqb _ _ (r .1)) (eq-eqb _ _ (r .2))) (eq-eqb _ _ (r .4)))
+      (and-true (and-true (and-true (eq-eqb _ _ (s .1)) (eq-eqb _ _ (s .2))) (eq-eqb _ _ (s .4))) (eq-eqb _ _ (s .3 ∙ sym (r .3))))
+
+  conflict-back : conflict tb i j ≡ true → some 128 both-take ≡ true
+  unfolding conflict
+  conflict-back e =
+      let x = two-elim (tb .records) _ _ e in
+      let r : ℕ = x .0 in
+      let s : ℕ = x .1 in
+      let br : basic tb r ≡ true = and-left (basic tb r) (eqb (tb .two r) i) (x .4) in
+      let front : (basic tb s && eqb (tb .two s) j) ≡ true = and-left (basic tb s && eqb (tb .two s) j) _ (x .5) in
+      let bs : basic tb s ≡ true = and-left (basic tb s) (eqb (tb .two s) j) front in
+      let kr : tb .kind r ≡ 3 = eqb-true (tb .kind r) 3 (and-left (is tb 3 r) (eqb (tb .sort r) 0) br) in
+      let ks : tb .kind s ≡ 3 = eqb-true (tb .kind s) 3 (and-left (is tb 3 s) (eqb (tb .sort s) 0) bs) in
+      let p : ℕ = tb .one r in
+      let hp : p < 128 = arcs r (x .2) kr .0 in
+      let named-r : Named tb 3 0 p i r = (x .2, kr, eqb-true (tb .sort r) 0 (and-right (is tb 3 r) (eqb (tb .sort r) 0) br), refl, eqb-true (tb .two r) i (and-right (basic tb r) (eqb (tb .two r) i) (x .4))) in
+      let named-s : Named tb 3 0 p j s = (x .3, ks, eqb-true (tb .sort s) 0 (and-right (is tb 3 s) (eqb (tb .sort s) 0) bs), eqb-true (tb .one s) p (and-right (basic tb s && eqb (tb .two s) j) (eqb (tb .one s) p) (x .5)), eqb-true (tb .two s) j (and-right (basic tb s) (eqb (tb .two s) j) front)) in
+      some-intro 128 both-take p hp (and-true (record-bit tb 3 0 takers g p i hp hi r named-r) (record-bit tb 3 0 takers g p j hp hj s named-s))
+
+  pub conflict-bit : bit (getD rows i 0) j ≡ conflict tb i j
+  conflict-bit = c .holds i j hi ∙ same-test _ _ conflict-there conflict-back
 
 -- What sort 0 and sort 1 say of two transitions, either way round: i has a condition of sort a, and j has it with sort b.
 module _ (tb : Table) (a b : ℕ) (apart : ¬ (b ≡ a)) (rows others : List ℕ) (ga : Gathered tb 4 a rows) (gb : Gathered tb 4 b others) (i j : ℕ)

@@ -16,6 +16,7 @@ use Rattle.meaning.specs.Table.{Table}
 use Rattle.meaning.proofs.Bool.{and-left, and-right, and-true, not-both, same-test}
 use Rattle.sets.proofs.Bits.{bit-zero}
 use Rattle.net.specs.Rows.{latest, cell, input}
+use Rattle.net.specs.Grow.{Grown, Kept}
 
 -- A test that implies one that fails, fails.
 fails : {a b : Bool} → (a ≡ true → b ≡ true) → b ≡ false → a ≡ false
@@ -30,11 +31,6 @@ in-range k c o x m h e =
 both-in-range : (k : Bool) (o x m t y n : ℕ) → x < m → y < n → (k && eqb o x && eqb t y) ≡ true → (k && ltb o m && ltb t n) ≡ true
 both-in-range k o x m t y n hx hy e =
     and-true (in-range k (eqb t y) o x m hx e) (lt-ltb t n (omega (arith, eqb-true t y (and-right (k && eqb o x) (eqb t y) e))))
-
--- Of the first r records, f x y says which put y into row x; the m rows hold just these.
-pub record Grown (m r : ℕ) (f : ℕ → ℕ → ℕ → Bool) (rows : List ℕ) : Type 0 where
-  pub size : length rows ≡ m
-  pub holds : (x y : ℕ) → x < m → y < 64 → bit (getD rows x 0) y ≡ some r (f x y)
 
 module _ (m : ℕ) (f : ℕ → ℕ → ℕ → Bool) where
   -- Before the first record all rows are empty.
@@ -79,12 +75,6 @@ module _ (m : ℕ) (f : ℕ → ℕ → ℕ → Bool) where
             rw (← eqb-true a x e) (ap (λ (z : ℕ). bit z y) (getD-set-same rows a v 0 (omega (arith, low, g .size))) ∙ gains y l)
         at x y l false e =
             ap (λ (z : ℕ). bit z y) (getD-set-other rows a x v 0 (λ q. eqb-false a x e (sym q))) ∙ sym (or-false (bit (getD rows x 0) y))
-
--- Each cell holds column f of the last input arc at its place and transition, of the first r records.
-pub record Kept (tb : Table) (f : ℕ → ℕ) (r : ℕ) (w : List (List ℕ)) : Type 0 where
-  pub places : length w ≡ 128
-  pub transitions : (p : ℕ) → p < 128 → length (getD w p []) ≡ 64
-  pub holds : (p t : ℕ) → p < 128 → t < 64 → cell w p t ≡ latest r (input tb p t) f
 
 -- A row with no arc.
 abbrev pub empty : List ℕ

@@ -13,14 +13,6 @@ use Rattle.meaning.proofs.Bool.{and-left, and-right, and-true, same-test}
 use Rattle.records.specs.Record.{Reads}
 use Rattle.records.specs.declared.Rec.{Rec}
 
--- Record k names y in row x: what `gather` asks of it.
-abbrev pub names : Table → ℕ → ℕ → ℕ → ℕ → ℕ → Bool
-names tb kind sort x y k = is tb kind k && eqb (tb .sort k) sort && eqb (tb .one k) x && eqb (tb .two k) y
-
--- Record k is a basic arc to i from a place whose row has j: what `conflicts` asks of it.
-abbrev pub shares : Table → List ℕ → ℕ → ℕ → ℕ → Bool
-shares tb takers i j k = basic tb k && eqb (tb .two k) i && bit (getD takers (tb .one k) 0) j
-
 -- To be a number below m is to be it and to be below m.
 pub low-too : (t y m : ℕ) → y < m → (eqb t y && ltb t m) ≡ eqb t y
 low-too t y m h =
@@ -37,13 +29,6 @@ module _ (x : Rec) (b : Bool) where
 
     pub named-low : b ≡ true → x .one < 128
     named-low = low (eqb (x .kind) kind && eqb (x .sort) sort) (x .one) 128 e
-
-  module _ (e : b ≡ (eqb (x .kind) 3 && eqb (x .sort) 0 && ltb (x .two) 64)) where
-    pub basic-says : (tb : Table) (r : ℕ) → Reads tb r x → (basic tb r && ltb (tb .two r) 64) ≡ b
-    basic-says tb r h = sym (e ∙ rw (h .kind, h .sort, h .two))
-
-    pub basic-low : b ≡ true → x .two < 64
-    basic-low = low (eqb (x .kind) 3 && eqb (x .sort) 0) (x .two) 64 e
 
   module _ (e : b ≡ (eqb (x .kind) 3 && ltb (x .sort) 3 && ltb (x .one) 128 && ltb (x .two) 64)) where
     pub input-says : (tb : Table) (r : ℕ) → Reads tb r x → (is tb 3 r && ltb (tb .sort r) 3 && ltb (tb .one r) 128 && ltb (tb .two r) 64) ≡ b

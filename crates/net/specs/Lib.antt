@@ -1,2 +1,3 @@
--- What the rows of a net hold.
+-- What the rows of a net hold, and what they hold after a part of the records.
 pub mod Rows
+pub mod Grow

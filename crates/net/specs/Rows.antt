@@ -1,23 +1,27 @@
 -- What each array holds, in terms of the table's records.
-use mathlib.Core.Bool.{Bool, cond, not, _&&_}
+use mathlib.Core.Bool.{Bool, cond, not, _&&_, _||_}
 use mathlib.Core.List.{List, []}
 use mathlib.Core.Path.{_≡_}
 use Prim.Native.Nat.{ℕ, zero, suc, _<_}
 use lib.Dec.{ltb, eqb}
-use lib.ListN.{getD}
+use lib.ListN.{length, getD, replicate}
 use Rattle.meaning.specs.Below.{some}
 use Rattle.meaning.specs.Bytes.{bit}
-use Rattle.meaning.specs.Table.{Table, is, basic}
+use Rattle.meaning.specs.Table.{Table, is}
 
 -- Bit y of row x: some record of the kind and sort has byte 1 at x and byte 2 at y.
 pub record Gathered (tb : Table) (kind sort : ℕ) (rows : List ℕ) : Type 0 where
   pub holds : (x y : ℕ) → x < 128 → y < 64
       → bit (getD rows x 0) y ≡ some (tb .records) (λ r. is tb kind r && eqb (tb .sort r) sort && eqb (tb .one r) x && eqb (tb .two r) y)
 
--- Bit j of row i: some basic arc to i comes from a place whose row has j.
-pub record Conflicts (tb : Table) (takers rows : List ℕ) : Type 0 where
-  pub holds : (i j : ℕ) → i < 64 → j < 64
-      → bit (getD rows i 0) j ≡ some (tb .records) (λ r. basic tb r && eqb (tb .two r) i && bit (getD takers (tb .one r) 0) j)
+-- What is shared: the row of each member of the set has the set beside what it had.
+pub record Shared (rows : List ℕ) (set : ℕ) (after : List ℕ) : Type 0 where
+  pub size : length after ≡ 64
+  pub holds : (i j : ℕ) → i < 64 → bit (getD after i 0) j ≡ (bit (getD rows i 0) j || (bit set i && bit set j))
+
+-- Bit j of row i: some place's row has both i and j.
+pub record Conflicts (takers rows : List ℕ) : Type 0 where
+  pub holds : (i j : ℕ) → i < 64 → bit (getD rows i 0) j ≡ some 128 (λ p. bit (getD takers p 0) i && bit (getD takers p 0) j)
 
 -- What column f says in the last of the first n records that passes p; 0 where none does.
 unfoldable pub latest : ℕ → (ℕ → Bool) → (ℕ → ℕ) → ℕ
@@ -37,6 +41,22 @@ pub record Weights (tb : Table) (w : List (List ℕ)) : Type 0 where
 
 pub record Sorts (tb : Table) (s : List (List ℕ)) : Type 0 where
   pub holds : (p t : ℕ) → p < 128 → t < 64 → cell s p t ≡ latest (tb .records) (input tb p t) (tb .sort)
+
+-- Nothing is kept yet.
+pub record Blank (w s : List (List ℕ)) (takers truths falses : List ℕ) : Type 0 where
+  pub no-weights : w ≡ replicate 128 (replicate 64 0)
+  pub no-sorts : s ≡ replicate 128 (replicate 64 0)
+  pub no-takers : takers ≡ replicate 128 0
+  pub no-truths : truths ≡ replicate 128 0
+  pub no-falses : falses ≡ replicate 128 0
+
+-- Weights and sorts; who takes from a place; what a transition wants true, and what false.
+pub record Filled (tb : Table) (w s : List (List ℕ)) (takers truths falses : List ℕ) : Type 0 where
+  pub weights : Weights tb w
+  pub sorts : Sorts tb s
+  pub takers-hold : Gathered tb 3 0 takers
+  pub truths-hold : Gathered tb 4 0 truths
+  pub falses-hold : Gathered tb 4 1 falses
 
 -- Some place has an arc of sort 0 or 1 to i and one of sort 2 and the same weight to j.
 unfoldable pub inhibits-by : List (List ℕ) → List (List ℕ) → ℕ → ℕ → Bool

@@ -4,9 +4,12 @@ use records::Rec;
 ghost use mathlib.Core.Bool.{not, _&&_};
 ghost use mathlib.Core.Path.{_≡_};
 ghost use lib.Dec.{eqb, ltb};
-ghost use lib.ListN.{getD};
-ghost use Rattle.meaning.specs.Table.{table};
-ghost use Rattle.net.specs.Rows.{Gathered, Conflicts, Weights, Sorts, inhibits-by};
+ghost use lib.ListN.{length, replicate};
+ghost use Prim.Native.Nat.{ℕ, _+_};
+ghost use Rattle.meaning.specs.Table.{Table, table};
+ghost use Rattle.records.specs.Record.{Reads};
+ghost use Rattle.net.specs.Rows.{Shared, Conflicts, Blank, Filled, inhibits-by};
+ghost use Rattle.net.specs.Grow.{names, Grown, Kept};
 
 // Is x of this kind and sort, with byte 1 below 128?
 fn named(x: Rec, kind: u8, sort: u8) -> bool
@@ -14,17 +17,6 @@ fn named(x: Rec, kind: u8, sort: u8) -> bool
 {
     if x.kind == kind {
         if x.sort == sort { x.one < 128 } else { false }
-    } else {
-        false
-    }
-}
-
-// Is x a basic arc, to a transition below 64?
-fn basic(x: Rec) -> bool
-    ensures { λ b. ⌜ b ≡ (eqb (x .kind) 3 && eqb (x .sort) 0 && ltb (x .two) 64) ⌝ }
-{
-    if x.kind == 3 {
-        if x.sort == 0 { x.two < 64 } else { false }
     } else {
         false
     }
@@ -45,86 +37,80 @@ fn input(x: Rec) -> bool
     }
 }
 
-// For each byte 1 the set of the bytes 2 with which a record of this kind and sort names it.
-pub fn gather(t: &[u8], kind: u8, sort: u8) -> [u64; 128]
-    ensures { λ r. ⌜ Gathered (table (now (t .entry))) kind sort r ⌝ }
+// A record of this kind and sort adds its byte 2 to the row of its byte 1.
+pub fn name(rows: &mut [u64; 128], x: Rec, kind: u8, sort: u8)
+    ensures { λ _. ⌜ ((tb : Table) (r : ℕ) → Reads tb r x → Grown 128 r (names tb kind sort) (now (rows .entry)) → Grown 128 (r + 1) (names tb kind sort) (now (rows .exit))) ⌝ }
+{
+    let one = records::wide(x.one);
+    if named(x, kind, sort) {
+        rows[one] = sets::with(rows[one], records::wide(x.two));
+    }
+}
+
+// An input arc leaves its weight and its sort at its place and transition.
+fn keep(w: &mut [[u16; 64]; 128], s: &mut [[u8; 64]; 128], x: Rec)
+    ensures { λ _. ⌜ ((tb : Table) (r : ℕ) → Reads tb r x → Kept tb (tb .four) r (now (w .entry)) → Kept tb (tb .sort) r (now (s .entry)) → Kept tb (tb .four) (r + 1) (now (w .exit)) × Kept tb (tb .sort) (r + 1) (now (s .exit))) ⌝ }
+{
+    let one = records::wide(x.one);
+    let two = records::wide(x.two);
+    if input(x) {
+        w[one][two] = x.four;
+        s[one][two] = x.sort;
+    }
+}
+
+// One pass over the records fills the rows that are lent empty: the input arcs' weights and sorts, place by transition; who takes from each
+// place; which conditions each transition wants true, and which false.
+pub fn fill(
+    t: &[u8],
+    w: &mut [[u16; 64]; 128],
+    s: &mut [[u8; 64]; 128],
+    takers: &mut [u64; 128],
+    truths: &mut [u64; 128],
+    falses: &mut [u64; 128],
+)
+    requires { ⌜ Blank (now w) (now s) (now takers) (now truths) (now falses) ⌝ }
+    ensures { λ _. ⌜ Filled (table (now (t .entry))) (now (w .exit)) (now (s .exit)) (now (takers .exit)) (now (truths .exit)) (now (falses .exit)) ⌝ }
 {
     let n = t.len() / 8;
-    let mut rows = [0u64; 128];
     let mut r = 0;
     while r < n {
         let x = records::read(t, r);
-        let one = records::wide(x.one);
-        if named(x, kind, sort) {
-            rows[one] = sets::with(rows[one], records::wide(x.two));
-        }
+        keep(w, s, x);
+        name(takers, x, 3, 0);
+        name(truths, x, 4, 0);
+        name(falses, x, 4, 1);
         r += 1;
     }
-    rows
 }
 
-// Row i, and 0 past the last.
-fn row(rows: &[u64], i: usize) -> u64
-    ensures { λ r. ⌜ r ≡ getD (now (rows .entry)) i 0 ⌝ }
+// Each member of a set gets the whole set into its row.
+fn share(rows: &mut [u64; 64], set: u64)
+    requires { ⌜ length (now rows) ≡ 64 ⌝ }
+    ensures { λ _. ⌜ Shared (now (rows .entry)) set (now (rows .exit)) ⌝ }
 {
-    if i < rows.len() { rows[i] } else { 0 }
-}
-
-// For each transition the set of those that take from a place from which it takes: takers[p] is who takes from place p.
-pub fn conflicts(t: &[u8], takers: &[u64; 128]) -> [u64; 64]
-    ensures { λ r. ⌜ Conflicts (table (now (t .entry))) (now (takers .entry)) r ⌝ }
-{
-    let n = t.len() / 8;
-    let mut rows = [0u64; 64];
-    let mut r = 0;
-    while r < n {
-        let x = records::read(t, r);
-        let one = records::wide(x.one);
-        let two = records::wide(x.two);
-        if basic(x) {
-            rows[two] = sets::union(rows[two], row(takers, one));
-        }
-        r += 1;
+    let mut left = set;
+    while left != 0 {
+        let t = sets::lowest(left);
+        rows[t] = sets::union(rows[t], set);
+        left = sets::without(left, t);
     }
-    rows
 }
 
-// The weight of the input arc from each place to each transition, 0 where there is none.
-pub fn weights(t: &[u8]) -> [[u16; 64]; 128]
-    ensures { λ w. ⌜ Weights (table (now (t .entry))) w ⌝ }
+// For each transition the set of those that take from a place from which it takes: takers[p] is who takes from place p. The rows are lent
+// empty.
+pub fn conflicts(takers: &[u64; 128], rows: &mut [u64; 64])
+    requires { ⌜ now rows ≡ replicate 64 0 ⌝ }
+    ensures { λ _. ⌜ Conflicts (now (takers .entry)) (now (rows .exit)) ⌝ }
 {
-    let n = t.len() / 8;
-    let mut w = [[0u16; 64]; 128];
-    let mut r = 0;
-    while r < n {
-        let x = records::read(t, r);
-        let one = records::wide(x.one);
-        let two = records::wide(x.two);
-        if input(x) {
-            w[one][two] = x.four;
+    let mut p = 0;
+    while p < 128 {
+        let set = takers[p];
+        if set != 0 {
+            share(rows, set);
         }
-        r += 1;
+        p += 1;
     }
-    w
-}
-
-// The sort of the input arc from each place to each transition, 0 where there is none.
-pub fn sorts(t: &[u8]) -> [[u8; 64]; 128]
-    ensures { λ s. ⌜ Sorts (table (now (t .entry))) s ⌝ }
-{
-    let n = t.len() / 8;
-    let mut s = [[0u8; 64]; 128];
-    let mut r = 0;
-    while r < n {
-        let x = records::read(t, r);
-        let one = records::wide(x.one);
-        let two = records::wide(x.two);
-        if input(x) {
-            s[one][two] = x.sort;
-        }
-        r += 1;
-    }
-    s
 }
 
 // Of two arcs from one place, by weight and sort: is the first a basic or test arc and the second an inhibitor arc of equal weight?

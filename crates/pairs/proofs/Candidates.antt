@@ -1,13 +1,13 @@
 -- Candidate 64i + j is the pair i, j: its quotient by 64 is i and its remainder j.
-use mathlib.Core.Bool.{Bool, true, false, not, _&&_, and-false}
+use mathlib.Core.Bool.{Bool, true, false, not, _&&_, and-true, and-false}
 use mathlib.Core.List.{List}
 use mathlib.Core.Logic.{⊎-elim}
-use mathlib.Core.Path.{_≡_, sym, ap, _∙_}
+use mathlib.Core.Path.{_≡_, refl, sym, ap, _∙_}
 use Prim.Native.Nat.{ℕ, _+_, _-_, _*_, _/_, _%_, _≤_, _<_}
 use native.Mathlib.Omega.{arith}
-use lib.Dec.{ltb}
+use lib.Dec.{eqb, ltb}
 use lib.ListN.{getD}
-use borrow.Author.Tests.{ltb-true, ltb-false}
+use borrow.Author.Tests.{ltb-true, ltb-false, le-ltb, eqb-true}
 use Rattle.meaning.specs.Below.{first}
 use Rattle.meaning.specs.Bytes.{bit}
 use Rattle.meaning.proofs.Bool.{either}
@@ -39,21 +39,37 @@ module _ (conflicts above truths falses : List ℕ) (w s : List (List ℕ)) wher
       let r : (64 * i + j) % 64 ≡ j = omega arith in
       rw (q, r)
 
-  -- A candidate more that is not loose, by what was found of its pair.
-  pub one-more : (i j : ℕ) (r : Bool) → j < 64 → None candidate (64 * i + j) → r ≡ pair i j → r ≡ false → None candidate (64 * i + (j + 1))
-  one-more i j r h none e q k l =
-      below-or-not k (64 * i + j) (none k)
-      (λ m.
-      let same : k ≡ 64 * i + j = omega arith in
-      ap candidate same ∙ loose-at i j h ∙ sym e ∙ q)
+  -- Of i's row, whoever is not in what is left makes no loose pair with i.
+  abbrev pub Out : ℕ → ℕ → Type 0
+  Out i left = (j : ℕ) → j < 64 → bit left j ≡ false → pair i j ≡ false
 
-  -- Where i's row is empty its 64 candidates are not loose.
-  pub row-more : (i : ℕ) → getD conflicts i 0 ≡ 0 → None candidate (64 * i) → None candidate (64 * (i + 1))
-  row-more i z none k l =
+  pub out-row : (i left : ℕ) → ((j : ℕ) → bit left j ≡ (bit (getD conflicts i 0) j && not (eqb i j))) → Out i left
+  out-row i left others j h z = go (eqb i j) refl
+    where
+      go : (b : Bool) → eqb i j ≡ b → pair i j ≡ false
+      go true e = rw (le-ltb i j (omega (arith, eqb-true i j e)))
+      go false e = rw (sym (and-true (bit (getD conflicts i 0) j)) ∙ sym (rw e at (others j)) ∙ z, and-false)
+
+  -- One more that makes none is taken out.
+  pub out-more : (i k left rest : ℕ) (r : Bool) → Out i left → ((j : ℕ) → bit rest j ≡ (bit left j && not (eqb k j))) → r ≡ pair i k → r ≡ false
+      → Out i rest
+  out-more i k left rest r out less e q j h z = go (eqb k j) refl
+    where
+      go : (b : Bool) → eqb k j ≡ b → pair i j ≡ false
+      go true f = rw (← eqb-true k j f) (sym e ∙ q)
+      go false f = out j h (sym (and-true (bit left j)) ∙ sym (rw f at (less j)) ∙ z)
+
+  -- The candidates before 64i and those of i below j are not loose, so none before 64i + j is.
+  pub up-to : (i j : ℕ) → j ≤ 64 → None candidate (64 * i) → ((k : ℕ) → k < j → pair i k ≡ false) → None candidate (64 * i + j)
+  up-to i j h none row k l =
       below-or-not k (64 * i) (none k)
       (λ m.
       let same : k ≡ 64 * i + (k - 64 * i) = omega arith in
-      ap candidate same ∙ loose-at i (k - 64 * i) (omega arith) ∙ rw (z, bit-zero (k - 64 * i), and-false))
+      ap candidate same ∙ loose-at i (k - 64 * i) (omega arith) ∙ row (k - 64 * i) (omega arith))
+
+  -- Where i's row is empty nobody makes a loose pair with i.
+  pub empty-row : (i : ℕ) → getD conflicts i 0 ≡ 0 → (k : ℕ) → pair i k ≡ false
+  empty-row i e k = rw (e, bit-zero k, and-false)
 
   -- A loose pair with none before it is the first; where there is none the answer is 4096.
   pub found : (i j : ℕ) (r : Bool) → i < 64 → j < 64 → None candidate (64 * i + j) → r ≡ pair i j → r ≡ true → 64 * i + j ≡ first 4096 candidate

@@ -64,7 +64,8 @@ fn unsettled(
     !settled(above, truths, falses, w, s, i, j)
 }
 
-// 64i + j for the least pair i < j in conflict without a settlement, 4096 if there is none.
+// 64i + j for the least pair i < j in conflict without a settlement, 4096 if there is none: for each i those in conflict with it, the lowest
+// first.
 pub fn clash(
     conflicts: &[u64; 64],
     above: &[u64; 64],
@@ -79,11 +80,14 @@ pub fn clash(
     'search: for i in 0..64 {
         let row = conflicts[i];
         if row != 0 {
-            for j in 0..64 {
+            let mut left = sets::without(row, i);
+            while left != 0 {
+                let j = sets::lowest(left);
                 if unsettled(row, above, truths, falses, w, s, i, j) {
                     found = 64 * i + j;
                     break 'search;
                 }
+                left = sets::without(left, j);
             }
         }
     }

@@ -1,6 +1,7 @@
 -- One round, row by row: a row that has k gets all that k's row has, and the others stay.
 use mathlib.Core.Bool.{true, false, _&&_, _||_, or-false, and-false}
 use mathlib.Core.List.{List}
+use mathlib.Core.Logic.{⊎-elim}
 use mathlib.Core.Path.{_≡_, refl, sym, ap, _∙_}
 use Prim.Native.Nat.{ℕ, _+_, _≤_, _<_}
 use native.Mathlib.Omega.{arith}
@@ -8,6 +9,8 @@ use lib.ListN.{getD, set, length, length-set}
 use lib.Seq.{getD-set-same, getD-set-other}
 use borrow.Author.Count.{below-more}
 use Rattle.meaning.specs.Bytes.{bit}
+use Rattle.meaning.proofs.Bool.{and-right, or-cases, or-true-left, or-true-right, not-both}
+use Rattle.meaning.proofs.Reflect.{not-true-false}
 use Rattle.priority.specs.Closed.{Round}
 use Rattle.sets.proofs.Bits.{bit-zero}
 
@@ -52,6 +55,30 @@ module _ (rows : List ℕ) (k : ℕ) where
         above = λ v l. getD-set-other next u v s 0 (λ e. omega arith) ∙ d .above v (omega arith);
       }
 
-  -- Where k's row is empty the round changes nothing.
-  pub skipped : getD rows k 0 ≡ 0 → Round rows k rows
-  skipped e = record { over = λ h u t hu ht. empty-k u e t; still = λ h. refl }
+  -- Where k's row is empty, or no row has k, the round changes nothing.
+  pub emptied : length rows ≡ 64 → getD rows k 0 ≡ 0 → Round rows k rows
+  emptied l e = record { size = l; over = λ u t hu ht. empty-k u e t }
+
+  pub lacking : length rows ≡ 64 → ((u : ℕ) → u < 64 → bit (getD rows u 0) k ≡ false) → Round rows k rows
+  lacking l f = record { size = l; over = λ u t hu ht. lacks-k u (f u hu) t }
+
+-- All that stands in the first n rows is in the set, and no round brings in more.
+abbrev pub Within : List ℕ → ℕ → ℕ → Type 0
+Within rows s n = (u : ℕ) → u < n → (t : ℕ) → t < 64 → bit (getD rows u 0) t ≡ true → bit s t ≡ true
+
+pub within-round : (rows next : List ℕ) (k s : ℕ) → k < 64 → Round rows k next → Within rows s 64 → Within next s 64
+within-round rows next k s l r f u h t i e =
+    ⊎-elim (f u h t i) (λ (p : (bit (getD rows u 0) k && bit (getD rows k 0) t) ≡ true). f k l t i (and-right (bit (getD rows u 0) k) _ p))
+    (or-cases (bit (getD rows u 0) t) (bit (getD rows u 0) k && bit (getD rows k 0) t) (sym (r .over u t h i) ∙ e))
+
+-- What is not in the set stands in no row.
+pub outside : (rows : List ℕ) (k s : ℕ) → k < 64 → Within rows s 64 → bit s k ≡ false → (u : ℕ) → u < 64 → bit (getD rows u 0) k ≡ false
+outside rows k s l f e u h = not-true-false (bit (getD rows u 0) k) (λ p. not-both (f u h k l p) e)
+
+-- One more row is written, and added to the set.
+pub within-more : (rows : List ℕ) (n s row more : ℕ) → n < length rows → Within rows s n
+    → ((t : ℕ) → bit more t ≡ (bit s t || bit row t)) → Within (set rows n row) more (n + 1)
+within-more rows n s row more l f e =
+    below-more _ _
+    (λ u h t i p. e t ∙ or-true-left (bit row t) (f u h t i (ap (λ (x : ℕ). bit x t) (sym (getD-set-other rows n u row 0 (λ q. omega arith))) ∙ p)))
+    (λ t i p. e t ∙ or-true-right (bit s t) (ap (λ (x : ℕ). bit x t) (sym (getD-set-same rows n row 0 l)) ∙ p))

@@ -101,7 +101,7 @@ copied index rows f u t h i = ap (λ (x : ℕ). bit x t) (f u h)
 
 pub rounded : (index : List ℕ) {rows next : List ℕ} {k : ℕ} → k < 64 → Rounds index k rows → Round rows k next → Rounds index (k + 1) next
 unfolding via
-rounded index {rows} {next} {k} l f r u t h i = r .over l u t h i ∙ rw (f u t h i, f u k h l, f k t l i, add-one k)
+rounded index {rows} {next} {k} l f r u t h i = r .over u t h i ∙ rw (f u t h i, f u k h l, f k t l i, add-one k)
 
 -- Rows that have what the 64 rounds give are closed.
 pub closing : {index rows : List ℕ} → Rounds index 64 rows → Closed index rows

@@ -3,7 +3,7 @@ use mathlib.Core.Bool.{true, _&&_, _||_}
 use mathlib.Core.List.{List}
 use mathlib.Core.Logic.{_↔_}
 use mathlib.Core.Path.{_≡_}
-use Prim.Native.Nat.{ℕ, _+_, _≤_, _<_}
+use Prim.Native.Nat.{ℕ, _+_, _<_}
 use lib.Dec.{ltb, eqb}
 use lib.ListN.{length, getD}
 use Rattle.meaning.specs.Bytes.{bit}
@@ -16,11 +16,11 @@ pub data Chain (index : List ℕ) : ℕ → ℕ → Type 0 where
 pub record Closed (index rows : List ℕ) : Type 0 where
   pub holds : (u t : ℕ) → u < 64 → t < 64 → (bit (getD rows u 0) t ≡ true) ↔ Chain index u t
 
--- One round: the rows after it have what they had, and over k all that k's row had; with no row k they are as they were.
+-- One round: the rows after it have what they had, and over k all that k's row had.
 pub record Round (rows : List ℕ) (k : ℕ) (next : List ℕ) : Type 0 where
-  pub over : k < 64 → (u t : ℕ) → u < 64 → t < 64
+  pub size : length next ≡ 64
+  pub over : (u t : ℕ) → u < 64 → t < 64
       → bit (getD next u 0) t ≡ (bit (getD rows u 0) t || (bit (getD rows u 0) k && bit (getD rows k 0) t))
-  pub still : 64 ≤ k → next ≡ rows
 
 -- What is added: transition u to the set of each transition of the row.
 pub record Spread (above : List ℕ) (row u : ℕ) (after : List ℕ) : Type 0 where

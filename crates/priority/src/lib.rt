@@ -6,44 +6,45 @@ ghost use Prim.Native.Nat.{ℕ, _<_};
 ghost use lib.ListN.{length, getD};
 ghost use Rattle.priority.specs.Closed.{Closed, Round, Spread};
 
-// The written pairs, row 512 + u of the index for each higher u, closed: whoever stands above k stands above all that k stands above.
-pub fn close(index: &[u64; 768]) -> [u64; 64]
-    ensures { λ r. ⌜ Closed (now (index .entry)) r ⌝ }
+// The written pairs, row 512 + u of the index for each higher u, closed: whoever stands above k stands above all that k stands above. A round
+// over a k that nobody stands above, or that stands above nobody, would change nothing.
+pub fn close(index: &[u64; 768], rows: &mut [u64; 64])
+    requires { ⌜ length (now rows) ≡ 64 ⌝ }
+    ensures { λ _. ⌜ Closed (now (index .entry)) (now (rows .exit)) ⌝ }
 {
-    let mut rows = [0u64; 64];
+    let mut lower: u64 = 0;
     let mut i = 0;
     while i < 64 {
-        rows[i] = index[512 + i];
+        let row = index[512 + i];
+        rows[i] = row;
+        lower = sets::union(lower, row);
         i += 1;
     }
     let mut k = 0;
     while k < 64 {
-        if rows[k] != 0 {
-            rows = through(rows, k);
+        if sets::has(lower, k) {
+            through(rows, k);
         }
         k += 1;
     }
-    rows
 }
 
 // One round: the rows with all chains that pass over k.
-fn through(rows: [u64; 64], k: usize) -> [u64; 64]
-    ensures { λ r. ⌜ Round rows k r ⌝ }
+fn through(rows: &mut [u64; 64], k: usize)
+    requires { ⌜ k < 64 ⌝ }
+    requires { ⌜ length (now rows) ≡ 64 ⌝ }
+    ensures { λ _. ⌜ Round (now (rows .entry)) k (now (rows .exit)) ⌝ }
 {
-    let mut next = rows;
-    if k < 64 {
-        let below = rows[k];
-        if below != 0 {
-            let mut u = 0;
-            while u < 64 {
-                if sets::has(rows[u], k) {
-                    next[u] = sets::union(rows[u], below);
-                }
-                u += 1;
+    let below = rows[k];
+    if below != 0 {
+        let mut u = 0;
+        while u < 64 {
+            if sets::has(rows[u], k) {
+                rows[u] = sets::union(rows[u], below);
             }
+            u += 1;
         }
     }
-    next
 }
 
 // The first transition that stands above itself, 64 if none does.

@@ -1,35 +1,33 @@
 -- The constant rows are the columns of the table of kinds, so the tests on them are those of the meaning.
 use mathlib.Core.Bool.{Bool, false, cond, _&&_, _||_, not, or-assoc}
-use mathlib.Core.List.{List, [], _∷_}
-use mathlib.Core.Path.{_≡_, refl, ap}
+use mathlib.Core.List.{[]}
+use mathlib.Core.Path.{_≡_, refl}
 use Prim.Native.Nat.{ℕ, zero, suc, _-_, _≤_}
 use lib.Dec.{ltb, eqb}
-use lib.ListN.{getD, List·getD-map}
+use lib.ListN.{getD}
 use borrow.Author.Tests.{le-ltb, ne-eqb}
 use Rattle.meaning.specs.Table.{Row, row, kinds, kind-row}
 use Rattle.meaning.specs.Defined.{bad-kind, bad-field, interval}
 use Rattle.records.specs.declared.Rec.{Rec}
-use Rattle.records.specs.Record.{alone, interval-of, fault-of}
+use Rattle.records.specs.Record.{alone, kind-rows, interval-of, fault-of}
 
--- A column of the table of kinds.
-column : (f : Row → ℕ) (k : ℕ) → getD (mathlib.Core.List.map f kinds) k (f (row 0 0 0 0 0)) ≡ f (getD kinds k (row 0 0 0 0 0))
-column f k = List·getD-map f kinds k (row 0 0 0 0 0)
+-- What stands in the row of kind k + 1.
+abbrev pub limit : ℕ → ℕ → ℕ
+limit k j = getD (getD kind-rows k []) j 0
 
--- The constant rows, as the source has them.
-abbrev pub ones : List ℕ
-ones = 127 ∷ 63 ∷ 127 ∷ 63 ∷ 63 ∷ 127 ∷ 63 ∷ []
-
-abbrev pub twos : List ℕ
-twos = 0 ∷ 0 ∷ 63 ∷ 63 ∷ 63 ∷ 63 ∷ 63 ∷ []
-
-abbrev pub sorts : List ℕ
-sorts = 0 ∷ 2 ∷ 3 ∷ 1 ∷ 0 ∷ 0 ∷ 0 ∷ []
-
-abbrev pub fours : List ℕ
-fours = 65535 ∷ 65535 ∷ 65535 ∷ 0 ∷ 0 ∷ 0 ∷ 0 ∷ []
-
-abbrev pub sixes : List ℕ
-sixes = 0 ∷ 65535 ∷ 0 ∷ 0 ∷ 0 ∷ 0 ∷ 0 ∷ []
+-- It is what the table of kinds has there.
+pub columns : (k : ℕ)
+    → let r = getD kinds k (row 0 0 0 0 0) in
+    (limit k 0 ≡ r .one) × (limit k 1 ≡ r .two) × (limit k 2 ≡ r .sort) × (limit k 3 ≡ r .four) × (limit k 4 ≡ r .six)
+unfolding kind-rows kinds
+columns zero = (refl, refl, refl, refl, refl)
+columns (suc zero) = (refl, refl, refl, refl, refl)
+columns (suc (suc zero)) = (refl, refl, refl, refl, refl)
+columns (suc (suc (suc zero))) = (refl, refl, refl, refl, refl)
+columns (suc (suc (suc (suc zero)))) = (refl, refl, refl, refl, refl)
+columns (suc (suc (suc (suc (suc zero))))) = (refl, refl, refl, refl, refl)
+columns (suc (suc (suc (suc (suc (suc zero)))))) = (refl, refl, refl, refl, refl)
+columns (suc (suc (suc (suc (suc (suc (suc k))))))) = (refl, refl, refl, refl, refl)
 
 -- An interval that starts at 0 is of sort 0 alone, and there is no sort above 2.
 pub no-start : (s b : ℕ) → (s ≡ 0 → ⊥) → interval-of s 0 b ≡ false
@@ -58,26 +56,17 @@ exceeds r x = ltb (r .one) (x .one) || ltb (r .two) (x .two) || ltb (r .four) (x
 -- A record whose kind is from 1 to 7, with its kind counted as w.
 module _ (x : Rec) (w : ℕ) (e : w ≡ x .kind) where
   -- Its sort is tested against the row of its kind.
-  pub sort-tested : (x .kind ≡ 0 → ⊥) → x .kind ≤ 7 → ltb (getD sorts (w - 1) 0) (x .sort) ≡ bad-kind (alone x) 0
-  unfolding bad-kind kinds
-  sort-tested p h =
-      rw (e, ne-eqb (x .kind) 0 p, le-ltb 7 (x .kind) h) (ap (λ (n : ℕ). ltb n (x .sort)) (column (λ r. r .sort) (x .kind - 1)))
+  pub sort-tested : (x .kind ≡ 0 → ⊥) → x .kind ≤ 7 → ltb (limit (w - 1) 2) (x .sort) ≡ bad-kind (alone x) 0
+  unfolding bad-kind
+  sort-tested p h = rw (e, ne-eqb (x .kind) 0 p, le-ltb 7 (x .kind) h, columns (x .kind - 1) .2)
 
   -- And so are its other columns, which with the test of its values is the test of its fields.
   pub fields-tested : (v : Bool)
       → v ≡ ((eqb (x .kind) 3 && eqb (x .four) 0) || (eqb (x .kind) 2 && not (interval-of (x .sort) (x .four) (x .six))))
       → (o : Bool)
-      → o ≡ exceeds (row (getD ones (w - 1) 0) (getD twos (w - 1) 0) (getD sorts (w - 1) 0) (getD fours (w - 1) 0) (getD sixes (w - 1) 0)) x
+      → o ≡ exceeds (row (limit (w - 1) 0) (limit (w - 1) 1) (limit (w - 1) 2) (limit (w - 1) 3) (limit (w - 1) 4)) x
       → bad-field (alone x) 0 ≡ (o || v)
-  unfolding bad-field kinds interval-of interval
+  unfolding bad-field interval-of interval
   fields-tested v p o q =
-      rw (
-        or-assoc (exceeds (kind-row (alone x) 0) x),
-        p,
-        q,
-        e,
-        column (λ r. r .one) (x .kind - 1),
-        column (λ r. r .two) (x .kind - 1),
-        column (λ r. r .four) (x .kind - 1),
-        column (λ r. r .six) (x .kind - 1),
-      )
+      let c = columns (x .kind - 1) in
+      rw (or-assoc (exceeds (kind-row (alone x) 0) x), p, q, e, c .0, c .1, c .3, c .4)

@@ -1,8 +1,9 @@
 -- A record's columns, and the answers 2 and 3 for it.
 use mathlib.Core.Bool.{Bool, cond}
+use mathlib.Core.List.{List, [], _∷_, map}
 use mathlib.Core.Path.{_≡_}
 use Prim.Native.Nat.{ℕ}
-use Rattle.meaning.specs.Table.{Table}
+use Rattle.meaning.specs.Table.{Table, kinds}
 use Rattle.meaning.specs.Defined.{bad-kind, bad-field, interval}
 use Rattle.records.specs.declared.Rec.{Rec}
 
@@ -27,6 +28,10 @@ alone x =
       four = λ r. x .four;
       six = λ r. x .six;
     }
+
+-- The table of kinds as rows of numbers: byte 1, byte 2, sort, bytes 4-5, bytes 6-7.
+unfoldable pub kind-rows : List (List ℕ)
+kind-rows = map (λ r. r .one ∷ r .two ∷ r .sort ∷ r .four ∷ r .six ∷ []) kinds
 
 -- A transition of this sort may have this a and b.
 unfoldable pub interval-of : ℕ → ℕ → ℕ → Bool

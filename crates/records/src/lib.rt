@@ -2,9 +2,10 @@
 ghost use mathlib.Core.Path.{_≡_};
 ghost use mathlib.Core.Bool.{not, _&&_, _||_};
 ghost use lib.Dec.{ltb, eqb};
+ghost use lib.ListN.{getD};
 ghost use Prim.Native.Nat.{_+_, _*_};
 ghost use Rattle.meaning.specs.Table.{table};
-ghost use Rattle.records.specs.Record.{Reads, interval-of, fault-of};
+ghost use Rattle.records.specs.Record.{Reads, kind-rows, interval-of, fault-of};
 
 // The columns of a record: byte 0, byte 1, byte 2, byte 3, bytes 4-5, bytes 6-7.
 pub struct Rec {
@@ -56,16 +57,30 @@ pub fn read(t: &[u8], r: usize) -> Rec
     }
 }
 
-// The constant rows of kinds 1 to 7: the highest value of each column, 0 where a column is not used.
-const ONE: [u8; 7] = [127, 63, 127, 63, 63, 127, 63];
+// The constant rows of kinds 1 to 7: the highest byte 1, byte 2, sort, bytes 4-5 and bytes 6-7, 0 where a column is not used.
+const KINDS: [[u16; 5]; 7] = [
+    [127, 0, 0, 65535, 0],
+    [63, 0, 2, 65535, 65535],
+    [127, 63, 3, 65535, 0],
+    [63, 63, 1, 0, 0],
+    [63, 63, 0, 0, 0],
+    [127, 63, 0, 0, 0],
+    [63, 63, 0, 0, 0],
+];
 
-const TWO: [u8; 7] = [0, 0, 63, 63, 63, 63, 63];
+// The rows of the kinds, made once for all records of a table.
+pub fn kinds() -> [[u16; 5]; 7]
+    ensures { λ r. ⌜ r ≡ kind-rows ⌝ }
+{
+    KINDS
+}
 
-const SORT: [u8; 7] = [0, 2, 3, 1, 0, 0, 0];
-
-const FOUR: [u16; 7] = [65535, 65535, 65535, 0, 0, 0, 0];
-
-const SIX: [u16; 7] = [0, 65535, 0, 0, 0, 0, 0];
+// A byte as a number of two bytes.
+fn half(x: u8) -> u16
+    ensures { λ r. ⌜ r ≡ x ⌝ }
+{
+    x as u16
+}
 
 // A transition's a and b are as its sort asks.
 fn interval(sort: u8, a: u16, b: u16) -> bool
@@ -105,24 +120,25 @@ fn bad_value(kind: u8, sort: u8, a: u16, b: u16) -> bool
     false
 }
 
-// A column is above the highest value that it may hold.
-fn over(one: u8, two: u8, four: u16, six: u16, x: Rec) -> bool
-    ensures { λ r. ⌜ r ≡ (ltb one (x .one) || ltb two (x .two) || ltb four (x .four) || ltb six (x .six)) ⌝ }
+// A column is above the highest value that the row of its kind allows.
+fn over(row: &[u16; 5], one: u8, two: u8, four: u16, six: u16) -> bool
+    ensures { λ r. ⌜ r ≡ (ltb (getD (now (row .entry)) 0 0) one || ltb (getD (now (row .entry)) 1 0) two || ltb (getD (now (row .entry)) 3 0) four || ltb (getD (now (row .entry)) 4 0) six) ⌝ }
 {
-    if one < x.one {
+    if row[0] < half(one) {
         return true;
     }
-    if two < x.two {
+    if row[1] < half(two) {
         return true;
     }
-    if four < x.four {
+    if row[3] < four {
         return true;
     }
-    six < x.six
+    row[4] < six
 }
 
 // 2 or 3, the first that the record meets, or 0: its kind and sort exist, then each column is within its kind's row.
-pub fn fault(x: Rec) -> u8
+pub fn fault(x: Rec, kinds: &[[u16; 5]; 7]) -> u8
+    requires { ⌜ now kinds ≡ kind-rows ⌝ }
     ensures { λ f. ⌜ f ≡ fault-of x ⌝ }
 {
     let kind = x.kind;
@@ -133,10 +149,11 @@ pub fn fault(x: Rec) -> u8
         return 2;
     }
     let k = wide(kind) - 1;
-    if SORT[k] < x.sort {
+    let sort = half(x.sort);
+    if kinds[k][2] < sort {
         return 2;
     }
-    if over(ONE[k], TWO[k], FOUR[k], SIX[k], x) {
+    if over(&kinds[k], x.one, x.two, x.four, x.six) {
         return 3;
     }
     if bad_value(kind, x.sort, x.four, x.six) {

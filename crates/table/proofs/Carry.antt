@@ -123,11 +123,11 @@ named-low (Shown.function a b) e = omega arith
 -- THE INDEX OF A TABLE WITHOUT FAULTS
 
 -- A pass that found nothing leaves the index of a table without faults.
-pub clean-of : (tb : Table) (s : Pass) → Scanned tb s → s .number ≡ 0 → Clean tb (s .rows)
+pub clean-of : (tb : Table) (s : Pass) (rows : List ℕ) → Scanned tb s rows → s .number ≡ 0 → Clean tb rows
 unfolding faulty
-clean-of tb s h e = go (ltb (s .at) (tb .records)) refl
+clean-of tb s rows h e = go (ltb (s .at) (tb .records)) refl
   where
-    go : (b : Bool) → ltb (s .at) (tb .records) ≡ b → Clean tb (s .rows)
+    go : (b : Bool) → ltb (s .at) (tb .records) ≡ b → Clean tb rows
     go true l =
         let found = first-passes (tb .records) (faulty tb) (rw (h .at) at (ltb-true (s .at) (tb .records) l)) in
         let zero-fault : fault tb (s .at) ≡ 0 = sym (rw l at (h .number)) ∙ e in
@@ -136,7 +136,7 @@ clean-of tb s h e = go (ltb (s .at) (tb .records)) refl
         let all : s .at ≡ tb .records = omega (arith, ltb-false (s .at) (tb .records) l, h .at, first-le (tb .records) (faulty tb)) in
         record {
           fine = λ r m. eqb-true (fault tb r) 0 (not-false _ (first-before (tb .records) (faulty tb) r (omega (arith, h .at))));
-          index = rw all at (h .rows);
+          index = rw all at (h .index);
         }
 
 module _ {tb : Table} {rows : List ℕ} (clean : Clean tb rows) where

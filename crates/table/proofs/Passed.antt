@@ -7,7 +7,7 @@ use mathlib.Core.Logic.{⊎-elim}
 use Prim.Native.Nat.{ℕ, zero, suc, _/_, _≤_, _<_}
 use native.Mathlib.Omega.{arith}
 use lib.Dec.{eqb, ltb}
-use lib.ListN.{length, getD, set, length-set}
+use lib.ListN.{length, getD, set, replicate, length-set, length-replicate, getD-replicate}
 use borrow.Author.Tests.{lt-ltb, le-ltb, ne-eqb, eqb-true}
 use Rattle.meaning.specs.Bytes.{bit}
 use Rattle.meaning.specs.Table.{Table, table}
@@ -74,54 +74,43 @@ pub record Passed (tb : Table) (n : ℕ) (rows : List ℕ) (r : ℕ) : Type 0 wh
   pub before : (k : ℕ) → k < r → faulty tb k ≡ false
   pub index : Indexed tb r rows
 
--- Every number of the list is 0.
-unfoldable pub zeros : List ℕ → Bool
-zeros [] = true
-zeros (x ∷ xs) = eqb x 0 && zeros xs
-
-zeros-read : (xs : List ℕ) → zeros xs ≡ true → (q : ℕ) → getD xs q 0 ≡ 0
-unfolding zeros
-zeros-read [] e q = refl
-zeros-read (x ∷ xs) e zero = eqb-true x 0 (and-left (eqb x 0) (zeros xs) e)
-zeros-read (x ∷ xs) e (suc q) = zeros-read xs (and-right (eqb x 0) (zeros xs) e) q
-
 -- Before the first record.
-pub passed-none : (bs rows : List ℕ) → zeros rows ≡ true → length rows ≡ 768 → Passed (table bs) (length bs / 8) rows 0
+pub passed-none : (bs rows : List ℕ) → rows ≡ replicate 768 0 → Passed (table bs) (length bs / 8) rows 0
 unfolding table
-passed-none bs rows z s =
+passed-none bs rows e =
     record {
       count = refl;
       most = omega arith;
-      size = s;
+      size = ap length e ∙ length-replicate {A = ℕ} 768 0;
       before = λ k l. absurd (omega arith);
-      index = no-records (table bs) rows (λ q l. zeros-read rows z q);
+      index = no-records (table bs) rows (λ q l. rw e (getD-replicate 768 q 0 0 l));
     }
 
 -- The pass is over.
-pub passed-all : {tb : Table} {n : ℕ} {rows : List ℕ} {r : ℕ} → Passed tb n rows r → n ≤ r → Scanned tb (record { number = 0; at = n; rows = rows })
+pub passed-all : {tb : Table} {n : ℕ} {rows : List ℕ} {r : ℕ} → Passed tb n rows r → n ≤ r → Scanned tb (record { number = 0; at = n }) rows
 passed-all {tb} {n} {rows} {r} kept h =
     let e : n ≡ r = omega (arith, kept .most) in
     record {
       at = kept .count ∙ sym (first-none (tb .records) (faulty tb) (λ k l. kept .before k (omega (arith, kept .count))));
       number = rw (le-ltb n (tb .records) (omega (arith, kept .count)));
-      rows = rw e (kept .index);
+      index = rw e (kept .index);
     }
 
 -- It stops at a record that has a fault.
 stopped : {tb : Table} {n : ℕ} {rows : List ℕ} {r : ℕ} → Passed tb n rows r → r < n → (f : ℕ) → fault tb r ≡ f → (f ≡ 0 → ⊥)
-    → Scanned tb (record { number = f; at = r; rows = rows })
+    → Scanned tb (record { number = f; at = r }) rows
 unfolding faulty
 stopped {tb} {n} {rows} {r} kept more f e h =
     let here : r < tb .records = omega (arith, kept .count) in
     record {
       at = sym (first-is (tb .records) (faulty tb) r here (rw (e, ne-eqb f 0 h)) (kept .before));
       number = rw (lt-ltb r (tb .records) here) (sym e);
-      rows = kept .index;
+      index = kept .index;
     }
 
 -- A fault of the record's own columns.
 pub stopped-own : {tb : Table} {n : ℕ} {rows : List ℕ} {r : ℕ} → Passed tb n rows r → r < n → {x : Rec} → Reads tb r x → {f : ℕ} → f ≡ fault-of x
-    → (f ≡ 0 → ⊥) → Scanned tb (record { number = f; at = r; rows = rows })
+    → (f ≡ 0 → ⊥) → Scanned tb (record { number = f; at = r }) rows
 stopped-own {tb} {n} {rows} {r} kept more {x} reads {f} e h = stopped kept more f (own-fault tb r x reads (λ z. h (e ∙ z)) ∙ sym e) h
 
 -- A record whose own columns are in order, to be kept in bit y of row q.
@@ -156,7 +145,7 @@ module _ {tb : Table} {n : ℕ} {rows : List ℕ} {r q y : ℕ} (z : Step tb n r
       (ap (λ (b : Bool). cond b 4 0)
       (twice-bit tb r shown rows (z .kept .index) (λ s l. faultless tb s (z .kept .before s l) .0)))
 
-  pub stopped-twice : bit (getD rows q 0) y ≡ true → Scanned tb (record { number = 4; at = r; rows = rows })
+  pub stopped-twice : bit (getD rows q 0) y ≡ true → Scanned tb (record { number = 4; at = r }) rows
   stopped-twice b = stopped (z .kept) (z .more) 4 (bit-fault ∙ rw b) (omega arith)
 
   -- The next record.

@@ -12,6 +12,10 @@ use Rattle.meaning.specs.Defined.{fault, faulty}
 use Rattle.records.specs.declared.Rec.{Rec}
 use Rattle.table.specs.declared.Pass.{Pass}
 
+-- The first row of each kind's block, the post arcs' left aside.
+abbrev pub plain-blocks : List ℕ
+plain-blocks = 0 ∷ 0 ∷ 128 ∷ 192 ∷ 448 ∷ 512 ∷ 576 ∷ 704 ∷ []
+
 -- The first row of a kind's block.
 unfoldable pub block : ℕ → ℕ → ℕ
 block kind sort = getD (0 ∷ 0 ∷ 128 ∷ cond (eqb sort 3) 320 192 ∷ 448 ∷ 512 ∷ 576 ∷ 704 ∷ []) kind 0
@@ -28,10 +32,10 @@ pub record Indexed (tb : Table) (n : ℕ) (rows : List ℕ) : Type 0 where
   pub holds : (q y : ℕ) → q < 768 → y < 64 → bit (getD rows q 0) y ≡ some n (λ r. eqb (row tb r) q && eqb (tb .two r) y)
 
 -- What the pass leaves: the place of the first record that meets 2, 3 or 4, its number, and the records before it in the rows.
-pub record Scanned (tb : Table) (s : Pass) : Type 0 where
+pub record Scanned (tb : Table) (s : Pass) (rows : List ℕ) : Type 0 where
   pub at : s .at ≡ first (tb .records) (faulty tb)
   pub number : s .number ≡ cond (ltb (s .at) (tb .records)) (fault tb (s .at)) 0
-  pub rows : Indexed tb (s .at) (s .rows)
+  pub index : Indexed tb (s .at) rows
 
 -- The index has place p; transition t.
 abbrev pub has-place : List ℕ → ℕ → Bool

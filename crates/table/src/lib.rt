@@ -4,17 +4,25 @@ ghost use mathlib.Core.Path.{_≡_};
 ghost use mathlib.Core.Bool.{not, _&&_};
 ghost use Prim.Native.Nat.{_+_, _<_, _≤_};
 ghost use lib.Dec.{eqb};
-ghost use lib.ListN.{getD};
+ghost use lib.ListN.{getD, replicate};
 ghost use Rattle.meaning.specs.Below.{some, first};
 ghost use Rattle.meaning.specs.Bytes.{bit};
 ghost use Rattle.meaning.specs.Table.{table};
-ghost use Rattle.table.specs.Index.{block, row-of, Scanned, has-transition, names-unknown, names-unknown-at, none-of, lone};
+ghost use Rattle.table.specs.Index.{plain-blocks, block, row-of, Scanned, has-transition, names-unknown, names-unknown-at, none-of, lone};
 
 // The first row of each kind's block: places, transitions, input arcs, conditions, priorities, actions, functions. Row 320 begins the post arcs.
 const BLOCK: [usize; 8] = [0, 0, 128, 192, 448, 512, 576, 704];
 
+// The blocks, made once for all records of a table.
+fn blocks() -> [usize; 8]
+    ensures { λ r. ⌜ r ≡ plain-blocks ⌝ }
+{
+    BLOCK
+}
+
 // The first row of a kind's block, and of an arc by whether it is a post arc.
-fn start(kind: u8, sort: u8) -> usize
+fn start(kind: u8, sort: u8, blocks: &[usize; 8]) -> usize
+    requires { ⌜ now blocks ≡ plain-blocks ⌝ }
     ensures { λ r. ⌜ r ≡ block kind sort ⌝ }
 {
     if 7 < kind {
@@ -27,63 +35,53 @@ fn start(kind: u8, sort: u8) -> usize
         return 192;
     }
     let k = records::wide(kind);
-    BLOCK[k]
+    blocks[k]
 }
 
 // The row of the index in which a record is kept, by its kind, its byte 1 and, of an arc, whether it is a post arc.
-fn row(x: Rec) -> usize
+fn row(x: Rec, blocks: &[usize; 8]) -> usize
+    requires { ⌜ now blocks ≡ plain-blocks ⌝ }
     ensures { λ r. ⌜ r ≡ row-of x ⌝ }
 {
     let kind = x.kind;
     if 7 < kind {
         return 0;
     }
-    start(kind, x.sort) + records::wide(x.one)
+    start(kind, x.sort, blocks) + records::wide(x.one)
 }
 
-// What the pass found: at the first record that meets 2, 3 or 4 its number, else number 0 and at the number of records. The rows hold the
-// records before that one.
+// What the pass found: at the first record that meets 2, 3 or 4 its number, else number 0 and at the number of records.
 pub struct Pass {
     pub number: u8,
     pub at: usize,
-    pub rows: [u64; 768],
 }
 
-// Each record in order is tested for 2, 3 and 4; one that says what an earlier one said finds its bit set.
-pub fn scan(t: &[u8]) -> Pass
-    ensures { λ s. ⌜ Scanned (table (now (t .entry))) s ⌝ }
+// Each record in order is tested for 2, 3 and 4; one that says what an earlier one said finds its bit set. The rows are lent empty, and hold
+// the records before the one at which the pass ends.
+pub fn scan(t: &[u8], rows: &mut [u64; 768]) -> Pass
+    requires { ⌜ now rows ≡ replicate 768 0 ⌝ }
+    ensures { λ s. ⌜ Scanned (table (now (t .entry))) s (now (rows .exit)) ⌝ }
 {
     let n = t.len() / 8;
-    let mut rows = [0u64; 768];
+    let kinds = records::kinds();
+    let blocks = blocks();
     let mut r = 0;
     while r < n {
         let x = records::read(t, r);
-        let f = records::fault(x);
+        let f = records::fault(x, &kinds);
         if f != 0 {
-            return Pass {
-                number: f,
-                at: r,
-                rows,
-            };
+            return Pass { number: f, at: r };
         }
-        let q = row(x);
+        let q = row(x, &blocks);
         let two = records::wide(x.two);
         let line = rows[q];
         if sets::has(line, two) {
-            return Pass {
-                number: 4,
-                at: r,
-                rows,
-            };
+            return Pass { number: 4, at: r };
         }
         rows[q] = sets::with(line, two);
         r += 1;
     }
-    Pass {
-        number: 0,
-        at: n,
-        rows,
-    }
+    Pass { number: 0, at: n }
 }
 
 // Does row q lack its bit 0, by which a place or a transition is declared?

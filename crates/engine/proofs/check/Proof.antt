@@ -1,5 +1,5 @@
 -- `engine::check` meets its contract: the length first, then what the stages judge.
-use mathlib.Core.Path.{sym}
+use mathlib.Core.Path.{refl, sym}
 use Rattle.engine.proofs.Stages.{length-odd, length-long, length-right, answer-1}
 use borrow.Author.Needs.{needs}
 use Rattle.engine.proofs.check.Statement.{statement}
@@ -11,19 +11,15 @@ returns c = record { answer-is = sym (answer-1 _ (length-odd _ (c .if1 .taken)))
 returns-2 : tie.Need-returns-2
 returns-2 c = record { answer-is = sym (answer-1 _ (length-long _ (c .if2 .taken))) }
 
-weights-requires : tie.Need-weights-requires
-weights-requires c κs = search needs
-
-sorts-requires : tie.Need-sorts-requires
-sorts-requires c κs = search needs
+fill-requires : tie.Need-fill-requires
+fill-requires c κs = search needs
 
 judge-requires : tie.Need-judge-requires
 judge-requires c κs =
-    (length-right _ (c .before .before .before .before .before .if1 .left) (c .before .before .before .before .if2 .left), (c .before .before .before .weights .ensures, c .before .before .sorts .ensures))
+    (length-right _ (c .before .before .before .before .before .before .before .before .before .before .before .before .before .before .if1 .left) (c .before .before .before .before .before .before .before .before .before .before .before .before .before .if2 .left), (c .before .before .before .before .before .before .before .fill .ensures, (refl, refl)))
 
 returns-3 : tie.Need-returns-3
 returns-3 c = search needs
 
 pub check-spec : {M : Type 1} → statement M
-check-spec =
-    tie.close (tie.spec returns returns-2 weights-requires sorts-requires judge-requires returns-3)
+check-spec = tie.close (tie.spec returns returns-2 fill-requires judge-requires returns-3)

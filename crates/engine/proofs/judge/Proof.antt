@@ -15,29 +15,47 @@ wide-requires c κs = search needs
 returns : tie.Need-returns
 unfolding table
 returns c =
-    let v = verdict-2 _ (c .before .before .before .before .before .pre .0) (c .before .before .before .scan .result) (c .before .before .before .scan .ensures) (c .before .if1 .taken) in
-    refusal _ _ (rw (c .wide .ensures) (v .0)) (rw (c .wide .ensures) (v .1))
+    let one = c .before in
+    let scanned = one .before in
+    let start = scanned .before .before .before in
+    let v = verdict-2 _ (start .pre .0) (scanned .scan .result) _ (scanned .scan .ensures) (one .if1 .taken) in
+    refusal _ _ _ _ (rw (c .wide .ensures) (v .0)) (rw (c .wide .ensures) (v .1))
 
 first-unknown-requires : tie.Need-first-unknown-requires
 first-unknown-requires c κs = search needs
 
 returns-2 : tie.Need-returns-2
 unfolding table
-returns-2 c = refusal _ _ (omega arith) (verdict-5 _ (c .before .before .before .before .before .before .before .pre .0) (c .before .before .before .before .before .scan .result) (c .before .before .before .before .before .scan .ensures) (c .before .before .before .if1 .left) _ (c .before .first-unknown .ensures) (c .if2 .taken))
+returns-2 c =
+    let one = c .before .before .before in
+    let scanned = one .before in
+    let start = scanned .before .before .before in
+    refusal _ _ _ _ (omega arith) (verdict-5 _ (start .pre .0) (scanned .scan .result) _ (scanned .scan .ensures) (one .if1 .left) _ (c .before .first-unknown .ensures) (c .if2 .taken))
 
 first-none-requires : tie.Need-first-none-requires
 first-none-requires c κs = search needs
 
 returns-3 : tie.Need-returns-3
 unfolding table
-returns-3 c = refusal _ _ (omega arith) (verdict-6 _ (c .before .before .before .before .before .before .before .before .before .before .pre .0) (c .before .before .before .before .before .before .before .before .scan .result) (c .before .before .before .before .before .before .before .before .scan .ensures) (c .before .before .before .before .before .before .if1 .left) _ (c .before .before .before .before .first-unknown .ensures) (c .before .before .before .if2 .left) _ (c .before .first-none .ensures) (c .if3 .taken))
+returns-3 c =
+    let two = c .before .before .before in
+    let one = two .before .before .before in
+    let scanned = one .before in
+    let start = scanned .before .before .before in
+    refusal _ _ _ _ (omega arith) (verdict-6 _ (start .pre .0) (scanned .scan .result) _ (scanned .scan .ensures) (one .if1 .left) _ (two .before .first-unknown .ensures) (two .if2 .left) _ (c .before .first-none .ensures) (c .if3 .taken))
 
 first-lone-requires : tie.Need-first-lone-requires
 first-lone-requires c κs = search needs
 
 returns-4 : tie.Need-returns-4
 unfolding table
-returns-4 c = refusal _ _ (omega arith) (verdict-7 _ (c .before .before .before .before .before .before .before .before .before .before .before .before .before .pre .0) (c .before .before .before .before .before .before .before .before .before .before .before .scan .result) (c .before .before .before .before .before .before .before .before .before .before .before .scan .ensures) (c .before .before .before .before .before .before .before .before .before .if1 .left) _ (c .before .before .before .before .before .before .before .first-unknown .ensures) (c .before .before .before .before .before .before .if2 .left) _ (c .before .before .before .before .first-none .ensures) (c .before .before .before .if3 .left) _ (c .before .first-lone .ensures) (c .if4 .taken))
+returns-4 c =
+    let three = c .before .before .before in
+    let two = three .before .before .before in
+    let one = two .before .before .before in
+    let scanned = one .before in
+    let start = scanned .before .before .before in
+    refusal _ _ _ _ (omega arith) (verdict-7 _ (start .pre .0) (scanned .scan .result) _ (scanned .scan .ensures) (one .if1 .left) _ (two .before .first-unknown .ensures) (two .if2 .left) _ (three .before .first-none .ensures) (three .if3 .left) _ (c .before .first-lone .ensures) (c .if4 .taken))
 
 close-requires : tie.Need-close-requires
 close-requires c κs = search needs
@@ -47,22 +65,47 @@ circle-requires c κs = search needs
 
 returns-5 : tie.Need-returns-5
 unfolding table
-returns-5 c = refusal _ _ (omega arith) (verdict-8 _ (c .before .before .before .before .before .before .before .before .before .before .before .before .before .before .before .before .before .before .pre .0) (c .before .before .before .before .before .before .before .before .before .before .before .before .before .before .before .before .scan .result) (c .before .before .before .before .before .before .before .before .before .before .before .before .before .before .before .before .scan .ensures) (c .before .before .before .before .before .before .before .before .before .before .before .before .before .before .if1 .left) _ (c .before .before .before .before .before .before .before .before .before .before .before .before .first-unknown .ensures) (c .before .before .before .before .before .before .before .before .before .before .before .if2 .left) _ (c .before .before .before .before .before .before .before .before .before .first-none .ensures) (c .before .before .before .before .before .before .before .before .if3 .left) _ (c .before .before .before .before .before .before .first-lone .ensures) (c .before .before .before .before .before .if4 .left) _ (c .before .before .before .close .ensures) _ (c .before .circle .ensures) (c .if5 .taken))
+returns-5 c =
+    let four = c .before .before .before .before .before .before in
+    let three = four .before .before .before in
+    let two = three .before .before .before in
+    let one = two .before .before .before in
+    let scanned = one .before in
+    let start = scanned .before .before .before in
+    refusal _ _ _ _ (omega arith) (verdict-8 _ (start .pre .0) (scanned .scan .result) _ (scanned .scan .ensures) (one .if1 .left) _ (two .before .first-unknown .ensures) (two .if2 .left) _ (three .before .first-none .ensures) (three .if3 .left) _ (four .before .first-lone .ensures) (four .if4 .left) _ (c .before .before .before .close .ensures) _ (c .before .circle .ensures) (c .if5 .taken))
 
-least-pair-requires : tie.Need-least-pair-requires
-least-pair-requires c κs = search needs
+conflicts-requires : tie.Need-conflicts-requires
+conflicts-requires c κs = search needs
+
+clash-requires : tie.Need-clash-requires
+clash-requires c κs = search needs
 
 returns-6 : tie.Need-returns-6
 unfolding table
-returns-6 c = refusal _ _ (omega arith) (verdict-9 _ (c .before .before .before .before .before .before .before .before .before .before .before .before .before .before .before .before .before .before .before .before .before .pre .0) (c .before .before .before .before .before .before .before .before .before .before .before .before .before .before .before .before .before .before .before .scan .result) (c .before .before .before .before .before .before .before .before .before .before .before .before .before .before .before .before .before .before .before .scan .ensures) (c .before .before .before .before .before .before .before .before .before .before .before .before .before .before .before .before .before .if1 .left) _ (c .before .before .before .before .before .before .before .before .before .before .before .before .before .before .before .first-unknown .ensures) (c .before .before .before .before .before .before .before .before .before .before .before .before .before .before .if2 .left) _ (c .before .before .before .before .before .before .before .before .before .before .before .before .first-none .ensures) (c .before .before .before .before .before .before .before .before .before .before .before .if3 .left) _ (c .before .before .before .before .before .before .before .before .before .first-lone .ensures) (c .before .before .before .before .before .before .before .before .if4 .left) _ (c .before .before .before .before .before .before .close .ensures) _ (c .before .before .before .before .circle .ensures) (c .before .before .before .if5 .left) _ _ (c .before .before .before .before .before .before .before .before .before .before .before .before .before .before .before .before .before .before .before .before .before .pre .1 .0) (c .before .before .before .before .before .before .before .before .before .before .before .before .before .before .before .before .before .before .before .before .before .pre .1 .1) _ (c .before .least-pair .ensures) (c .if6 .taken))
+returns-6 c =
+    let five = c .before .before .before .before .before .before in
+    let four = five .before .before .before .before .before .before in
+    let three = four .before .before .before in
+    let two = three .before .before .before in
+    let one = two .before .before .before in
+    let scanned = one .before in
+    let start = scanned .before .before .before in
+    refusal _ _ _ _ (omega arith) (verdict-9 _ (start .pre .0) (scanned .scan .result) _ (scanned .scan .ensures) (one .if1 .left) _ (two .before .first-unknown .ensures) (two .if2 .left) _ (three .before .first-none .ensures) (three .if3 .left) _ (four .before .first-lone .ensures) (four .if4 .left) _ (five .before .before .before .close .ensures) _ (five .before .circle .ensures) (five .if5 .left) _ _ _ _ _ (start .pre .1 .0) _ (c .before .before .before .before .conflicts2 .ensures) _ (c .before .clash .ensures) (c .if6 .taken))
 
 returns-7 : tie.Need-returns-7
 unfolding table
 returns-7 c =
+    let five = c .before .before .before .before .before .before in
+    let four = five .before .before .before .before .before .before in
+    let three = four .before .before .before in
+    let two = three .before .before .before in
+    let one = two .before .before .before in
+    let scanned = one .before in
+    let start = scanned .before .before .before in
     record {
-      answer = verdict-0 _ (c .before .before .before .before .before .before .before .before .before .before .before .before .before .before .before .before .before .before .before .before .before .pre .0) (c .before .before .before .before .before .before .before .before .before .before .before .before .before .before .before .before .before .before .before .scan .result) (c .before .before .before .before .before .before .before .before .before .before .before .before .before .before .before .before .before .before .before .scan .ensures) (c .before .before .before .before .before .before .before .before .before .before .before .before .before .before .before .before .before .if1 .left) _ (c .before .before .before .before .before .before .before .before .before .before .before .before .before .before .before .first-unknown .ensures) (c .before .before .before .before .before .before .before .before .before .before .before .before .before .before .if2 .left) _ (c .before .before .before .before .before .before .before .before .before .before .before .before .first-none .ensures) (c .before .before .before .before .before .before .before .before .before .before .before .if3 .left) _ (c .before .before .before .before .before .before .before .before .before .first-lone .ensures) (c .before .before .before .before .before .before .before .before .if4 .left) _ (c .before .before .before .before .before .before .close .ensures) _ (c .before .before .before .before .circle .ensures) (c .before .before .before .if5 .left) _ _ (c .before .before .before .before .before .before .before .before .before .before .before .before .before .before .before .before .before .before .before .before .before .pre .1 .0) (c .before .before .before .before .before .before .before .before .before .before .before .before .before .before .before .before .before .before .before .before .before .pre .1 .1) _ (c .before .least-pair .ensures) (c .if6 .left);
-      index = λ z. clean _ (c .before .before .before .before .before .before .before .before .before .before .before .before .before .before .before .before .before .before .before .before .before .pre .0) (c .before .before .before .before .before .before .before .before .before .before .before .before .before .before .before .before .before .before .before .scan .result) (c .before .before .before .before .before .before .before .before .before .before .before .before .before .before .before .before .before .before .before .scan .ensures) (c .before .before .before .before .before .before .before .before .before .before .before .before .before .before .before .before .before .if1 .left) .index;
-      higher = λ z. above-is _ (c .before .before .before .before .before .before .before .before .before .before .before .before .before .before .before .before .before .before .before .before .before .pre .0) (c .before .before .before .before .before .before .before .before .before .before .before .before .before .before .before .before .before .before .before .scan .result) (c .before .before .before .before .before .before .before .before .before .before .before .before .before .before .before .before .before .before .before .scan .ensures) (c .before .before .before .before .before .before .before .before .before .before .before .before .before .before .before .before .before .if1 .left) _ (c .before .before .before .before .before .before .before .before .before .before .before .before .before .before .before .first-unknown .ensures) (c .before .before .before .before .before .before .before .before .before .before .before .before .before .before .if2 .left) _ (c .before .before .before .before .before .before .before .before .before .before .before .before .first-none .ensures) (c .before .before .before .before .before .before .before .before .before .before .before .if3 .left) _ (c .before .before .before .before .before .before .before .before .before .first-lone .ensures) (c .before .before .before .before .before .before .before .before .if4 .left) _ (c .before .before .before .before .before .before .close .ensures);
+      answer = verdict-0 _ (start .pre .0) (scanned .scan .result) _ (scanned .scan .ensures) (one .if1 .left) _ (two .before .first-unknown .ensures) (two .if2 .left) _ (three .before .first-none .ensures) (three .if3 .left) _ (four .before .first-lone .ensures) (four .if4 .left) _ (five .before .before .before .close .ensures) _ (five .before .circle .ensures) (five .if5 .left) _ _ _ _ _ (start .pre .1 .0) _ (c .before .before .before .before .conflicts2 .ensures) _ (c .before .clash .ensures) (c .if6 .left);
+      indexed = λ z. clean _ (start .pre .0) (scanned .scan .result) _ (scanned .scan .ensures) (one .if1 .left) .index;
+      higher-is = λ z. above-is _ (start .pre .0) (scanned .scan .result) _ (scanned .scan .ensures) (one .if1 .left) _ (two .before .first-unknown .ensures) (two .if2 .left) _ (three .before .first-none .ensures) (three .if3 .left) _ (four .before .first-lone .ensures) (four .if4 .left) _ (five .before .before .before .close .ensures);
     }
 
 pub judge-spec : {M : Type 1} → statement M
@@ -81,6 +124,7 @@ judge-spec =
     close-requires
     circle-requires
     returns-5
-    least-pair-requires
+    conflicts-requires
+    clash-requires
     returns-6
     returns-7)

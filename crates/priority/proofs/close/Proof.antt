@@ -1,6 +1,7 @@
--- `close` gives the closed rows: the first loop copies the written pairs, and each turn of the second makes one more round, 64 in all.
+-- `close` gives the closed rows: the first loop copies the written pairs, and each turn of the second makes one more round, 64 in all; where no
+-- row has k the rows are the round over k already.
 use mathlib.Core.Logic.{⊎-elim}
-use mathlib.Core.Path.{_≡_, refl, _∙_}
+use mathlib.Core.Path.{_≡_, sym, _∙_}
 use Prim.Native.Nat.{ℕ, _+_, _≤_, _<_, _-_}
 use native.Mathlib.Nat.{not-suc-le-zero}
 use native.Mathlib.Omega.{arith}
@@ -8,41 +9,44 @@ use lib.ListN.{getD, length, length-set}
 use lib.Seq.{getD-set-same, getD-set-other}
 use borrow.Author.Count.{below-more}
 use borrow.Author.Needs.{needs}
-use Rattle.priority.proofs.Round.{skipped}
+use Rattle.priority.proofs.Round.{lacking, Within, within-round, outside, within-more}
 use Rattle.priority.proofs.Warshall.{Rounds, copied, rounded, closing}
 use Rattle.priority.proofs.close.Statement.{statement}
 use Rattle.priority.proofs.close.Tie as tie
 
 abbrev Inv-loop : tie.InvT-loop
-Inv-loop index rows₀ i₀ rows i =
-    (i ≤ 64) × (length rows ≡ 64) × ((u : ℕ) → u < i → getD rows u 0 ≡ getD index (512 + u) 0)
+Inv-loop index rows₀ lower₀ i₀ rows lower i =
+    (i ≤ 64) × (length rows ≡ 64) × ((u : ℕ) → u < i → getD rows u 0 ≡ getD index (512 + u) 0) × Within rows lower i
 
 abbrev μ-loop : tie.MeasureT-loop
-μ-loop index rows₀ i₀ rows i = 64 - i
+μ-loop index rows₀ lower₀ i₀ rows lower i = 64 - i
 
 abbrev Inv-loop2 : tie.InvT-loop2
-Inv-loop2 index rows₀ i k₀ rows k = (k ≤ 64) × Rounds index k rows
+Inv-loop2 index rows₀ lower i k₀ rows k = (k ≤ 64) × (length rows ≡ 64) × Rounds index k rows × Within rows lower 64
 
 abbrev μ-loop2 : tie.MeasureT-loop2
-μ-loop2 index rows₀ i k₀ rows k = 64 - k
+μ-loop2 index rows₀ lower i k₀ rows k = 64 - k
 
 loop-holds : tie.Need-loop-holds Inv-loop μ-loop Inv-loop2 μ-loop2
-loop-holds c = (omega arith, refl, λ u h. absurd (not-suc-le-zero h))
+loop-holds c = (omega arith, c .pre, λ u h. absurd (not-suc-le-zero h), λ u h. absurd (not-suc-le-zero h))
 
-add-rows : tie.Need-add-rows Inv-loop μ-loop Inv-loop2 μ-loop2
-add-rows c = search needs
+add-row : tie.Need-add-row Inv-loop μ-loop Inv-loop2 μ-loop2
+add-row c = search needs
+
+mul-row : tie.Need-mul-row Inv-loop μ-loop Inv-loop2 μ-loop2
+mul-row c = search needs
+
+element-copy-out-row : tie.Need-element-copy-out-row Inv-loop μ-loop Inv-loop2 μ-loop2
+element-copy-out-row c = search needs
 
 mul-rows : tie.Need-mul-rows Inv-loop μ-loop Inv-loop2 μ-loop2
 mul-rows c = search needs
 
-element-copy-out-rows : tie.Need-element-copy-out-rows Inv-loop μ-loop Inv-loop2 μ-loop2
-element-copy-out-rows c = search needs
+element-write-rows : tie.Need-element-write-rows Inv-loop μ-loop Inv-loop2 μ-loop2
+element-write-rows c = search needs
 
-mul-rows-2 : tie.Need-mul-rows-2 Inv-loop μ-loop Inv-loop2 μ-loop2
-mul-rows-2 c = search needs
-
-array-write-rows : tie.Need-array-write-rows Inv-loop μ-loop Inv-loop2 μ-loop2
-array-write-rows c = search needs
+union-requires : tie.Need-union-requires Inv-loop μ-loop Inv-loop2 μ-loop2
+union-requires c κs = search needs
 
 add-i : tie.Need-add-i Inv-loop μ-loop Inv-loop2 μ-loop2
 add-i c = search needs
@@ -52,28 +56,27 @@ loop-less c = search needs
 
 loop-again : tie.Need-loop-again Inv-loop μ-loop Inv-loop2 μ-loop2
 loop-again c =
-    let index = c .before .before .before .args .index .now in
-    let rows = c .before .before .loop .rows in
-    let i = c .before .before .loop .i in
-    let s = getD index (512 + i) 0 in (
+    let at = c .before .before .before .loop in
+    let index = c .before .before .before .before .args .index .now in
+    let row : ℕ = getD index (512 + at .i) 0 in (
       omega arith,
       simp length-set (omega arith),
-      below-more _ _ (λ u h. getD-set-other rows i u s 0 (λ e. omega arith) ∙ c .before .before .loop .inv .2 u h)
-          (getD-set-same rows i s 0 (omega arith)),
+      below-more _ _ (λ u h. getD-set-other (at .rows) (at .i) u row 0 (λ e. omega arith) ∙ at .inv .2 u h) (getD-set-same (at .rows) (at .i) row 0 (omega arith)),
+      within-more (at .rows) (at .i) (at .lower) row (c .union .result) (omega arith) (at .inv .3) (c .union .ensures),
     )
 
 loop2-holds : tie.Need-loop2-holds Inv-loop μ-loop Inv-loop2 μ-loop2
 loop2-holds c =
-    (omega arith, copied (c .before .before .args .index .now) (c .before .loop .rows) (λ u h. c .before .loop .inv .2 u (omega arith)))
+    let at = c .before .loop in
+    let index = c .before .before .args .index .now in
+    let all : at .i ≡ 64 = omega arith in
+    (omega arith, at .inv .1, copied index (at .rows) (λ u h. at .inv .2 u (omega arith)), λ u h. at .inv .3 u (omega arith))
 
-mul-if1 : tie.Need-mul-if1 Inv-loop μ-loop Inv-loop2 μ-loop2
-mul-if1 c = search needs
-
-array-read-if1 : tie.Need-array-read-if1 Inv-loop μ-loop Inv-loop2 μ-loop2
-array-read-if1 c = c .loop2-test .taken
+has-requires : tie.Need-has-requires Inv-loop μ-loop Inv-loop2 μ-loop2
+has-requires c κs = search needs
 
 through-requires : tie.Need-through-requires Inv-loop μ-loop Inv-loop2 μ-loop2
-through-requires c κs = search needs
+through-requires c κs = (c .before .before .before .loop2-test .taken, c .before .before .before .before .loop2 .inv .1)
 
 add-k : tie.Need-add-k Inv-loop μ-loop Inv-loop2 μ-loop2
 add-k c = search needs
@@ -83,18 +86,23 @@ loop2-less c = search needs
 
 loop2-again : tie.Need-loop2-again Inv-loop μ-loop Inv-loop2 μ-loop2
 loop2-again c =
-    let index = c .before .before .before .before .before .args .index .now in
-    let low : c .before .before .loop2 .k < 64 = omega arith in (
-      omega arith,
-      ⊎-elim (λ w. rw (w .2) (rounded index low (c .before .before .loop2 .inv .1) (w .1 .ensures)))
-          (λ w. rw (w .1) (rounded index low (c .before .before .loop2 .inv .1) (skipped (c .before .before .loop2 .rows) (c .before .before .loop2 .k) (w .0 .left))))
-          (c .if1 .came),
-    )
+    let at = c .before .before .before .loop2 in
+    let index = c .before .before .before .before .before .before .args .index .now in
+    let lower : ℕ = c .before .before .before .before .before .loop .lower in
+    let low : at .k < 64 = c .before .before .loop2-test .taken in
+    ⊎-elim
+    (λ w.
+    let round = w .2 .ensures in
+    rw (w .3) (omega arith, round .size, rounded index low (at .inv .2) round, within-round (at .rows) _ (at .k) lower low round (at .inv .3)))
+    (λ w.
+    let round = lacking (at .rows) (at .k) (at .inv .1) (outside (at .rows) (at .k) lower low (at .inv .3) (sym (c .before .has .ensures) ∙ w .0 .left)) in
+    rw (w .1) (omega arith, at .inv .1, rounded index low (at .inv .2) round, at .inv .3))
+    (c .if1 .came)
 
 returns : tie.Need-returns Inv-loop μ-loop Inv-loop2 μ-loop2
 returns c =
     let all : c .before .loop2 .k ≡ 64 = omega arith in
-    closing (rw all at (c .before .loop2 .inv .1))
+    closing (rw all at (c .before .loop2 .inv .2))
 
 pub close-spec : {M : Type 1} → statement M
 close-spec =
@@ -105,17 +113,17 @@ close-spec =
     Inv-loop2
     μ-loop2
     loop-holds
-    add-rows
+    add-row
+    mul-row
+    element-copy-out-row
     mul-rows
-    element-copy-out-rows
-    mul-rows-2
-    array-write-rows
+    element-write-rows
+    union-requires
     add-i
     loop-less
     loop-again
     loop2-holds
-    mul-if1
-    array-read-if1
+    has-requires
     through-requires
     add-k
     loop2-less

@@ -6,14 +6,15 @@ use native.Mathlib.Omega.{arith}
 use lib.ListN.{length, length-set}
 use borrow.Author.Needs.{needs}
 use Rattle.meaning.specs.Bytes.{bit}
-use Rattle.priority.proofs.Walk.{lowest-in, due, falls, added, none-due}
+use Rattle.sets.proofs.Members.{lowest-in, due, falls, added, none-due}
+use Rattle.priority.proofs.Walk.{takes}
 use Rattle.priority.proofs.spread.Statement.{statement}
 use Rattle.priority.proofs.spread.Tie as tie
 
 abbrev Inv-loop : tie.InvT-loop
 Inv-loop above₀ row u left₀ above left =
     (left < 2 ^ 64) × (length above ≡ 64)
-    × ((t j : ℕ) → due above left u t j ≡ due above₀ row u t j)
+    × ((t j : ℕ) → due above left (takes u) t j ≡ due above₀ row (takes u) t j)
 
 abbrev μ-loop : tie.MeasureT-loop
 μ-loop above₀ row u left₀ above left = left
@@ -66,7 +67,7 @@ loop-again c =
 returns : tie.Need-returns Inv-loop μ-loop
 returns c =
     let at = c .before .loop in
-    record { size = at .inv .1; holds = λ t j h. none-due (at .above) (at .left) _ t j (c .loop-test .left) ∙ at .inv .2 t j }
+    record { size = at .inv .1; holds = λ t j h. none-due (at .above) (at .left) (takes (c .before .before .args .u)) t j (c .loop-test .left) ∙ at .inv .2 t j }
 
 pub spread-spec : {M : Type 1} → statement M
 spread-spec =

@@ -1,34 +1,43 @@
--- `through` makes the round over k: the rows that the loop has passed have it, and with no row k, or an empty one, it changes nothing.
+-- `through` makes the round over k: the rows that the loop has passed have it, and an empty row k changes nothing.
+use mathlib.Core.Bool.{_||_}
+use mathlib.Core.List.{List}
 use mathlib.Core.Logic.{⊎-elim}
-use mathlib.Core.Path.{refl, sym, _∙_}
-use Prim.Native.Nat.{_≤_, _-_}
+use mathlib.Core.Path.{_≡_, refl, sym, ap, _∙_}
+use Prim.Native.Nat.{ℕ, _≤_, _<_, _-_}
 use native.Mathlib.Nat.{not-suc-le-zero}
 use native.Mathlib.Omega.{arith}
+use lib.ListN.{getD}
 use borrow.Author.Needs.{needs}
-use Rattle.priority.proofs.Round.{Done, with-k, lacks-k, empty-k, kept, put}
+use Rattle.meaning.specs.Bytes.{bit}
+use Rattle.priority.proofs.Round.{Done, with-k, lacks-k, emptied, kept, put}
 use Rattle.priority.proofs.through.Statement.{statement}
 use Rattle.priority.proofs.through.Tie as tie
 
 abbrev Inv-loop : tie.InvT-loop
-Inv-loop k rows next₀ below u₀ next u = (u ≤ 64) × Done rows k u next
+Inv-loop rows₀ k below u₀ rows u = (u ≤ 64) × (k < 64) × (below ≡ getD rows₀ k 0) × Done rows₀ k u rows
 
 abbrev μ-loop : tie.MeasureT-loop
-μ-loop k rows next₀ below u₀ next u = 64 - u
+μ-loop rows₀ k below u₀ rows u = 64 - u
 
 mul-below : tie.Need-mul-below Inv-loop μ-loop
-mul-below c = search needs
+mul-below c = omega (arith, c .pre .0)
 
-array-read-below : tie.Need-array-read-below Inv-loop μ-loop
-array-read-below c = search needs
+element-copy-out-below : tie.Need-element-copy-out-below Inv-loop μ-loop
+element-copy-out-below c = c .pre .0
 
 loop-holds : tie.Need-loop-holds Inv-loop μ-loop
-loop-holds c = (omega arith, record { long = omega arith; below = λ v h. absurd (not-suc-le-zero h); above = λ v h. refl })
+loop-holds c = (
+  omega arith,
+  c .before .before .pre .0,
+  refl,
+  record { long = c .before .before .pre .1; below = λ v h. absurd (not-suc-le-zero h); above = λ v h. refl },
+)
 
 mul-has : tie.Need-mul-has Inv-loop μ-loop
 mul-has c = search needs
 
-array-read-has : tie.Need-array-read-has Inv-loop μ-loop
-array-read-has c = search needs
+element-copy-out-has : tie.Need-element-copy-out-has Inv-loop μ-loop
+element-copy-out-has c = search needs
 
 has-requires : tie.Need-has-requires Inv-loop μ-loop
 has-requires c κs = search needs
@@ -36,17 +45,17 @@ has-requires c κs = search needs
 mul-union : tie.Need-mul-union Inv-loop μ-loop
 mul-union c = search needs
 
-array-read-union : tie.Need-array-read-union Inv-loop μ-loop
-array-read-union c = search needs
+element-copy-out-union : tie.Need-element-copy-out-union Inv-loop μ-loop
+element-copy-out-union c = search needs
 
 union-requires : tie.Need-union-requires Inv-loop μ-loop
 union-requires c κs = search needs
 
-mul-next : tie.Need-mul-next Inv-loop μ-loop
-mul-next c = search needs
+mul-rows : tie.Need-mul-rows Inv-loop μ-loop
+mul-rows c = search needs
 
-array-write-next : tie.Need-array-write-next Inv-loop μ-loop
-array-write-next c = search needs
+element-write-rows : tie.Need-element-write-rows Inv-loop μ-loop
+element-write-rows c = search needs
 
 add-u : tie.Need-add-u Inv-loop μ-loop
 add-u c = search needs
@@ -56,38 +65,29 @@ loop-less c = search needs
 
 loop-again : tie.Need-loop-again Inv-loop μ-loop
 loop-again c =
-    let rows = c .before .before .before .before .before .before .args .t1 in
-    let k = c .before .before .before .before .before .before .args .k in
-    let u = c .before .before .before .loop .u in
-    let d = c .before .before .before .loop .inv .1 in
-    let has = c .before .has .ensures in
+    let at = c .before .before .before .before .loop in
+    let start = c .before .before .before .before .before .before .before .args in
+    let rows : List ℕ = start .rows .now in
+    let k : ℕ = start .k in
+    let u : ℕ = at .u in
+    let d = at .inv .3 in
+    let same : getD (at .rows) u 0 ≡ getD rows u 0 = d .above u (omega arith) in
+    let has : c .before .has .result ≡ bit (getD rows u 0) k = c .before .has .ensures ∙ ap (λ (x : ℕ). bit x k) same in
     ⊎-elim
     (λ w.
-    let s = w .1 .result in
-    (omega arith, rw (w .2) (put rows k s (omega arith) (with-k rows k u s (sym has ∙ w .0 .taken) (w .1 .ensures)) d)))
-    (λ w. (omega arith, rw (w .1) (kept rows k (lacks-k rows k u (sym has ∙ w .0 .left)) d)))
-    (c .if3 .came)
+    let s : ℕ = w .2 .result in
+    let joins : (t : ℕ) → bit s t ≡ (bit (getD rows u 0) t || bit (getD rows k 0) t) = λ t. w .2 .ensures t ∙ rw same in
+    (omega arith, at .inv .1, at .inv .2, rw (w .3) (put rows k s (omega arith) (with-k rows k u s (sym has ∙ w .0 .taken) joins) d)))
+    (λ w. (omega arith, at .inv .1, at .inv .2, rw (w .1) (kept rows k (lacks-k rows k u (sym has ∙ w .0 .left)) d)))
+    (c .if2 .came)
 
 returns : tie.Need-returns Inv-loop μ-loop
 returns c =
-    record {
-      over = λ l u t h i. c .before .loop .inv .1 .below u (omega arith) t;
-      still = λ l. let none : ⊥ = omega arith in absurd none;
-    }
+    let d = c .before .loop .inv .3 in
+    record { size = d .long; over = λ u t h i. d .below u (omega arith) t }
 
 returns-2 : tie.Need-returns-2 Inv-loop μ-loop
-returns-2 c =
-    record {
-      over = λ l u t h i. empty-k (c .before .before .args .t1) (c .before .before .args .k) u (c .if2 .left) t;
-      still = λ l. refl;
-    }
-
-returns-3 : tie.Need-returns-3 Inv-loop μ-loop
-returns-3 c =
-    record {
-      over = λ l u t h i. let none : ⊥ = omega arith in absurd none;
-      still = λ l. refl;
-    }
+returns-2 c = emptied _ _ (c .before .before .pre .1) (c .if1 .left)
 
 pub through-spec : {M : Type 1} → statement M
 through-spec =
@@ -96,19 +96,18 @@ through-spec =
     Inv-loop
     μ-loop
     mul-below
-    array-read-below
+    element-copy-out-below
     loop-holds
     mul-has
-    array-read-has
+    element-copy-out-has
     has-requires
     mul-union
-    array-read-union
+    element-copy-out-union
     union-requires
-    mul-next
-    array-write-next
+    mul-rows
+    element-write-rows
     add-u
     loop-less
     loop-again
     returns
-    returns-2
-    returns-3)
+    returns-2)

@@ -1,55 +1,58 @@
 -- The loop keeps Passed: no record before r has a fault, and the rows hold them; so the next fault is the record's own or its bit.
-use mathlib.Core.Path.{refl, sym, _∙_}
+use mathlib.Core.Path.{sym, _∙_}
 use Prim.Native.Nat.{_-_, _/_}
 use native.Mathlib.Numerals.{add-one}
 use native.Mathlib.Omega.{arith}
 use lib.ListN.{length}
 use borrow.Author.Needs.{needs}
 use Rattle.meaning.specs.Table.{table}
-use Rattle.table.proofs.Passed.{Step, zeros, passed-none, Passed, passed-all, stopped-own, row-there, stopped-twice, passed-one}
+use Rattle.table.proofs.Passed.{Step, passed-none, Passed, passed-all, stopped-own, row-there, stopped-twice, passed-one}
 use Rattle.table.proofs.scan.Statement.{statement}
 use Rattle.table.proofs.scan.Tie as tie
 
--- The loop keeps Passed: no record before r has a fault, and the rows hold them; so the next fault is the record's own or its bit.
-
 abbrev Inv-loop : tie.InvT-loop
-Inv-loop t n rows₀ r₀ rows r = Passed (table t) n rows r
+Inv-loop t rows₀ n kinds blocks r₀ rows r = Passed (table t) n rows r
 
 abbrev μ-loop : tie.MeasureT-loop
-μ-loop t n rows₀ r₀ rows r = n - r
+μ-loop t rows₀ n kinds blocks r₀ rows r = n - r
+
+kinds-requires : tie.Need-kinds-requires Inv-loop μ-loop
+kinds-requires c κs = search needs
+
+blocks-requires : tie.Need-blocks-requires Inv-loop μ-loop
+blocks-requires c κs = search needs
 
 loop-holds : tie.Need-loop-holds Inv-loop μ-loop
-unfolding zeros
-loop-holds c = passed-none _ _ refl refl
+loop-holds c = passed-none _ _ (c .before .before .before .pre)
 
 read-requires : tie.Need-read-requires Inv-loop μ-loop
 read-requires c κs = search needs
 
 fault-requires : tie.Need-fault-requires Inv-loop μ-loop
-fault-requires c κs = search needs
+fault-requires c κs = c .before .before .before .before .before .kinds .ensures
 
 returns : tie.Need-returns Inv-loop μ-loop
 returns c =
-    stopped-own (c .before .before .before .before .loop .inv) (c .before .before .before .loop-test .taken) (c .before .before .read .ensures) (c .before .fault .ensures) (c .if1 .taken)
+    stopped-own (c .before .before .before .before .before .loop .inv) (c .before .before .before .before .loop-test .taken) (c .before .before .before .read .ensures) (c .before .fault .ensures) (c .if1 .taken)
 
 row-requires : tie.Need-row-requires Inv-loop μ-loop
-row-requires c κs = search needs
+row-requires c κs = c .before .before .before .before .before .before .before .blocks2 .ensures
 
 wide-requires : tie.Need-wide-requires Inv-loop μ-loop
 wide-requires c κs = search needs
 
 -- What is known of a record whose own columns are in order.
 step : (c : tie.After-wide Inv-loop μ-loop)
-    → let bs = c .before .before .before .before .before .before .before .before .args .t .now in
-    let at = c .before .before .before .before .before .before .loop in
+    → let bs = c .before .before .before .before .before .before .before .before .before .before .before .before .args .t .now in
+    let at = c .before .before .before .before .before .before .before .before .loop in
     Step (table bs) (length bs / 8) (at .rows) (at .r) (c .before .row .result) (c .wide .result)
 step c =
     record {
-      kept = c .before .before .before .before .before .before .loop .inv;
-      more = c .before .before .before .before .before .loop-test .taken;
-      x = c .before .before .before .before .read .result;
-      reads = c .before .before .before .before .read .ensures;
-      sound = sym (c .before .before .before .fault .ensures) ∙ c .before .before .if1 .left;
+      kept = c .before .before .before .before .before .before .before .before .loop .inv;
+      more = c .before .before .before .before .before .before .before .loop-test .taken;
+      x = c .before .before .before .before .before .before .read .result;
+      reads = c .before .before .before .before .before .before .read .ensures;
+      sound = sym (c .before .before .before .before .fault .ensures) ∙ c .before .before .before .if1 .left;
       row-of-x = c .before .row .ensures;
       two-of-x = c .wide .ensures;
     }
@@ -57,23 +60,23 @@ step c =
 mul-line : tie.Need-mul-line Inv-loop μ-loop
 mul-line c = omega (arith, row-there (step c))
 
-array-read-line : tie.Need-array-read-line Inv-loop μ-loop
-array-read-line c = row-there (step c)
+element-copy-out-line : tie.Need-element-copy-out-line Inv-loop μ-loop
+element-copy-out-line c = row-there (step c)
 
 has-requires : tie.Need-has-requires Inv-loop μ-loop
 has-requires c κs = search needs
 
 returns-2 : tie.Need-returns-2 Inv-loop μ-loop
-returns-2 c = stopped-twice (step (c .before .before)) (sym (c .before .has .ensures) ∙ c .if2 .taken)
+returns-2 c = stopped-twice (step (c .before .before .before)) (sym (c .before .has .ensures) ∙ c .if2 .taken)
 
 with-requires : tie.Need-with-requires Inv-loop μ-loop
 with-requires c κs = search needs
 
 mul-rows : tie.Need-mul-rows Inv-loop μ-loop
-mul-rows c = omega (arith, row-there (step (c .before .before .before)))
+mul-rows c = omega (arith, row-there (step (c .before .before .before .before)))
 
-array-write-rows : tie.Need-array-write-rows Inv-loop μ-loop
-array-write-rows c = row-there (step (c .before .before .before))
+element-write-rows : tie.Need-element-write-rows Inv-loop μ-loop
+element-write-rows c = row-there (step (c .before .before .before .before))
 
 add-r : tie.Need-add-r Inv-loop μ-loop
 add-r c = search needs
@@ -83,8 +86,8 @@ loop-less c = search needs
 
 loop-again : tie.Need-loop-again Inv-loop μ-loop
 loop-again c =
-    rw (add-one (c .before .before .before .before .before .before .before .before .before .loop .r))
-    (passed-one (step (c .before .before .before)) (c .with .result) (sym (c .before .before .has .ensures) ∙ c .before .if2 .left) (c .with .ensures))
+    rw (add-one (c .before .before .before .before .before .before .before .before .before .before .before .before .loop .r))
+    (passed-one (step (c .before .before .before .before)) (c .with .result) (sym (c .before .before .has .ensures) ∙ c .before .if2 .left) (c .with .ensures))
 
 returns-3 : tie.Need-returns-3 Inv-loop μ-loop
 returns-3 c = passed-all (c .before .loop .inv) (c .loop-test .left)
@@ -95,6 +98,8 @@ scan-spec =
     (tie.spec
     Inv-loop
     μ-loop
+    kinds-requires
+    blocks-requires
     loop-holds
     read-requires
     fault-requires
@@ -102,12 +107,12 @@ scan-spec =
     row-requires
     wide-requires
     mul-line
-    array-read-line
+    element-copy-out-line
     has-requires
     returns-2
     with-requires
     mul-rows
-    array-write-rows
+    element-write-rows
     add-r
     loop-less
     loop-again

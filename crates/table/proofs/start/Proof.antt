@@ -24,13 +24,13 @@ wide-requires c κs = search needs
 mul-result : tie.Need-mul-result
 mul-result c = search needs
 
-array-read-result : tie.Need-array-read-result
-array-read-result c = search needs
+element-copy-out-result : tie.Need-element-copy-out-result
+element-copy-out-result c = search needs
 
 returns-4 : tie.Need-returns-4
-returns-4 c = rw (c .wide .ensures) (block-plain _ _ (c .before .if2 .left))
+returns-4 c = rw (c .before .before .before .before .pre, c .before .wide .ensures) (block-plain _ _ (c .before .before .if2 .left))
 
 pub start-spec : {M : Type 1} → statement M
 start-spec =
     tie.close
-    (tie.spec returns returns-2 returns-3 wide-requires mul-result array-read-result returns-4)
+    (tie.spec returns returns-2 returns-3 wide-requires mul-result element-copy-out-result returns-4)

@@ -1,0 +1,26 @@
+-- What the first r records of a table have put into the rows.
+use mathlib.Core.Bool.{Bool, _&&_}
+use mathlib.Core.List.{List, []}
+use mathlib.Core.Path.{_≡_}
+use Prim.Native.Nat.{ℕ, _<_}
+use lib.Dec.{eqb}
+use lib.ListN.{length, getD}
+use Rattle.meaning.specs.Below.{some}
+use Rattle.meaning.specs.Bytes.{bit}
+use Rattle.meaning.specs.Table.{Table, is}
+use Rattle.net.specs.Rows.{latest, cell, input}
+
+-- Record k names y in row x: it is of the kind and sort, with byte 1 at x and byte 2 at y.
+abbrev pub names : Table → ℕ → ℕ → ℕ → ℕ → ℕ → Bool
+names tb kind sort x y k = is tb kind k && eqb (tb .sort k) sort && eqb (tb .one k) x && eqb (tb .two k) y
+
+-- Of the first r records, f x y says which put y into row x; the m rows hold just these.
+pub record Grown (m r : ℕ) (f : ℕ → ℕ → ℕ → Bool) (rows : List ℕ) : Type 0 where
+  pub size : length rows ≡ m
+  pub holds : (x y : ℕ) → x < m → y < 64 → bit (getD rows x 0) y ≡ some r (f x y)
+
+-- Each cell holds column f of the last input arc at its place and transition, of the first r records.
+pub record Kept (tb : Table) (f : ℕ → ℕ) (r : ℕ) (w : List (List ℕ)) : Type 0 where
+  pub places : length w ≡ 128
+  pub transitions : (p : ℕ) → p < 128 → length (getD w p []) ≡ 64
+  pub holds : (p t : ℕ) → p < 128 → t < 64 → cell w p t ≡ latest r (input tb p t) f
