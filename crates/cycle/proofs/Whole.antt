@@ -5,7 +5,7 @@ use mathlib.Core.Path.{_≡_, refl, sym, ap, _∙_, fun-ext}
 use Prim.Native.Nat.{ℕ, _+_, _^_, _≤_, _<_}
 use native.Mathlib.Omega.{arith}
 use lib.Dec.{ltb, eqb}
-use lib.ListN.{getD, replicate, getD-replicate}
+use lib.ListN.{getD}
 use borrow.Author.Tests.{eqb-true, lt-ltb, le-ltb}
 use Rattle.meaning.specs.Below.{some, sum, first, within}
 use Rattle.meaning.specs.Bytes.{bit}
@@ -26,12 +26,12 @@ use Rattle.enabled.specs.Inputs.{enabled-by}
 use Rattle.enabled.proofs.Carry.{enabled-same, taker-near, outputs-same}
 use Rattle.edges.specs.Edges.{fallen, fallen-at, Falls, firable-at}
 use Rattle.edges.proofs.Carry.{fallen-same, timely-same, asked-same}
-use Rattle.moves.specs.Moves.{moved-at, at-words, Moved}
+use Rattle.moves.specs.Moves.{moved-at, at-words}
 use Rattle.moves.proofs.Carry.{withdrawn-same, added-same}
-use Rattle.moves.proofs.Near.{moved-everywhere}
+use Rattle.moves.proofs.Near.{moved-outside}
 use Rattle.fire.specs.Fired.{Ranks, Fires}
-use Rattle.fire.proofs.Carry.{well-ranks, fires-is}
-use Rattle.settle.specs.Settle.{new-at, Settled}
+use Rattle.fire.proofs.Carry.{listed, listed-at, well-ranks, fires-is}
+use Rattle.settle.specs.Settle.{new-at, Weighed, Settled}
 use Rattle.resets.specs.Starved.{reset-by}
 use Rattle.resets.proofs.Carry.{starved-near, starved-same}
 use Rattle.report.proofs.Carry.{bits-of, acting-same, actions-are, functions-are}
@@ -67,18 +67,6 @@ module _ (bs : List ℕ) (known timed : ℕ) (acting : Places) (x : Intervals) (
   puts =
       added-same (table bs) (λ r h k. (arcs bs (net .sound) r h k .0, arcs bs (net .sound) r h k .1)) posts putters (net .posts-hold)
       (λ p t h l. net .putters-hold .holds p t h l) (post-once bs (net .sound))
-
-  -- What is put at a place: 64 weights at most.
-  pub put-low : (set p : ℕ) → p < 128 → moved-at set putters posts p ≤ 4194240
-  unfolding sum
-  put-low set p l = sum-mono 64 _ (λ t. 65535) (λ t h. most (bit set t && bit (getD putters p 0) t) t h)
-    where
-      most : (b : Bool) (t : ℕ) → t < 64 → cond b (cell posts p t) 0 ≤ 65535
-      most true t h =
-          rw (net .posts-hold .holds p t l h)
-          (latest-low (table bs .records) _ (table bs .four) 65535
-          (λ r m e. weight-low bs (net .sound) r m (eqb-true _ _ (and-left (is (table bs) 3 r) _ (and-left (post (table bs) r) _ (and-left _ _ e))))))
-      most false t h = omega arith
 
   module _ (h : Held) (on : ℕ)
       (on-is : (t : ℕ) → bit on t ≡ (ltb t 64 && (bit known t && enabled-by (h .tokens) w s (getD low t 0) (getD high t 0) t)))
@@ -139,11 +127,7 @@ module _ (bs : List ℕ) (known timed : ℕ) (acting : Places) (x : Intervals) (
         -- The places of the fired ones' arcs.
         module _ (from to at : Places) (from-is : (p : ℕ) → has from p ≡ some 64 (λ t. bit f t && at-words low high t p))
             (to-is : (p : ℕ) → has to p ≡ some 64 (λ t. bit f t && at-words outs-low outs-high t p))
-            (at-is : (p : ℕ) → has at p ≡ (has from p || has to p)) (taken put : List ℕ)
-            (take-is : Moved (replicate 128 0) from f takers w taken) (put-is : Moved (replicate 128 0) to f putters posts put) where
-          zeros : (p : ℕ) → p < 128 → getD {A = ℕ} (replicate 128 0) p 0 ≡ 0
-          zeros p l = getD-replicate {A = ℕ} 128 p 0 0 l
-
+            (at-is : (p : ℕ) → has at p ≡ (has from p || has to p)) where
           taker-has : (p t : ℕ) → p < 128 → t < 64 → bit (getD takers p 0) t ≡ true → at-words low high t p ≡ true
           taker-has p t l m =
               taker-near (table bs) w s index (record { low = low; high = high }) (net .weights) (net .sorts) clean (net .inputs) (arcs bs (net .sound))
@@ -154,38 +138,30 @@ module _ (bs : List ℕ) (known timed : ℕ) (acting : Places) (x : Intervals) (
               outputs-same (table bs) index clean (record { low = outs-low; high = outs-high }) (net .outputs) t p m l
               ∙ sym (net .putters-hold .holds p t l m) ∙ e
 
-          out : (p : ℕ) → p < 128 → getD taken p 0 ≡ withdrawn (table bs) (bit f) p
-          out p l = moved-everywhere from f takers w low high from-is taker-has _ taken zeros take-is p l ∙ takes f p l
-
-          put-at : (p : ℕ) → p < 128 → getD put p 0 ≡ moved-at f putters posts p
-          put-at p l = moved-everywhere to f putters posts outs-low outs-high to-is putter-has _ put zeros put-is p l
-
-          -- What is put fits.
-          pub put-fits : (p : ℕ) → p < 128 → getD put p 0 ≤ 4194240
-          put-fits p l = rw (put-at p l) (put-low f p l)
-
           -- Elsewhere nothing is taken, and nothing is put.
-          not-taken : (p : ℕ) → p < 128 → has from p ≡ false → getD taken p 0 ≡ 0
-          not-taken p l e = take-is .holds p l ∙ rw e (zeros p l)
+          not-taken : (p : ℕ) → p < 128 → has at p ≡ false → moved-at f takers w p ≡ 0
+          not-taken p l e = moved-outside from f takers w low high from-is taker-has p l (or-false-left (has from p) (has to p) (sym (at-is p) ∙ e))
 
-          not-put : (p : ℕ) → p < 128 → has to p ≡ false → getD put p 0 ≡ 0
-          not-put p l e = put-is .holds p l ∙ rw e (zeros p l)
+          not-put : (p : ℕ) → p < 128 → has at p ≡ false → moved-at f putters posts p ≡ 0
+          not-put p l e = moved-outside to f putters posts outs-low outs-high to-is putter-has p l (or-false-right (has from p) (has to p) (sym (at-is p) ∙ e))
 
-          stays : (p : ℕ) → p < 128 → has at p ≡ false → new-at (h .tokens) taken put p ≡ getD (h .tokens) p 0
-          stays p l e =
-              let neither : (has from p || has to p) ≡ false = sym (at-is p) ∙ e in
-              rw (not-taken p l (or-false-left (has from p) (has to p) neither), not-put p l (or-false-right (has from p) (has to p) neither)) (omega arith)
+          abbrev new : ℕ → ℕ
+          new = new-at (h .tokens) f takers w putters posts
+
+          stays : (p : ℕ) → p < 128 → has at p ≡ false → new p ≡ getD (h .tokens) p 0
+          stays p l e = rw (not-taken p l e, not-put p l e) (omega arith)
 
           -- The new tokens are those of the new marking.
           token-is : (p : ℕ) → p < 128
-              → new-at (h .tokens) taken put p
+              → new p
               ≡ marked (table bs) (held h .tokens) (within (fired (table bs) (falling (table bs) (held h)) word)) p
           unfolding marked
           token-is p l =
-              let here : new-at (h .tokens) taken put p ≡ marked (table bs) (held h .tokens) (bit f) p = rw (out p l, put-at p l, puts f p l) in
+              let here : new p ≡ marked (table bs) (held h .tokens) (bit f) p = rw (takes f p l, puts f p l) in
               here ∙ ap (λ (F : ℕ → Bool). marked (table bs) (held h .tokens) F p) one-set
 
-          module _ (small : Small h) (over : ℕ) (over-is : over ≡ first 128 (λ p. has at p && ltb 65535 (new-at (h .tokens) taken put p)))
+          module _ (small : Small h) (over : ℕ) (taken next : List ℕ)
+              (weighed : Weighed at (h .tokens) f takers w putters posts over taken next)
               (actions functions : ℕ)
               (actions-is : (k : ℕ) → bit actions k ≡ some 128 (λ p. has acting p && (ltb 0 (getD (h .tokens) p 0) && bit (getD index (576 + p) 0) k)))
               (functions-is : (k : ℕ) → bit functions k ≡ some 64 (λ t. bit f t && bit (getD index (704 + t) 0) k))
@@ -193,9 +169,9 @@ module _ (bs : List ℕ) (known timed : ℕ) (acting : Places) (x : Intervals) (
             -- No place elsewhere is overfull.
             first-is : over ≡ first 128 (overfull (table bs) (rising (table bs) (falling (table bs) (held h)) (within (fired (table bs) (falling (table bs) (held h)) word))))
             unfolding falling rising overfull ceiling
-            first-is = over-is ∙ first-same 128 _ _ (λ p l. go p l (has at p) refl ∙ ap (ltb 65535) (token-is p l))
+            first-is = weighed .over-is ∙ first-same 128 _ _ (λ p l. go p l (has at p) refl ∙ ap (ltb 65535) (token-is p l))
               where
-                go : (p : ℕ) → p < 128 → (b : Bool) → has at p ≡ b → (b && ltb 65535 (new-at (h .tokens) taken put p)) ≡ ltb 65535 (new-at (h .tokens) taken put p)
+                go : (p : ℕ) → p < 128 → (b : Bool) → has at p ≡ b → (b && ltb 65535 (new p)) ≡ ltb 65535 (new p)
                 go p l true e = refl
                 go p l false e = sym (rw (stays p l e) (le-ltb 65535 (getD (h .tokens) p 0) (small .tokens p l)))
 
@@ -226,8 +202,8 @@ module _ (bs : List ℕ) (known timed : ℕ) (acting : Places) (x : Intervals) (
             bursts l sized = says (h .orders) (h .tokens) (h .counters) (λ b. (refl, refl)) (λ b. absurd (omega (arith, b, l))) sized
 
             module _ (full : 128 ≤ over) (after : ℕ)
-                (after-is : (t : ℕ) → bit after t ≡ (ltb t 64 && reset-by from timed f (h .tokens) taken w s low high t)) (tokens : List ℕ)
-                (settled : Settled (h .tokens) at taken put tokens) where
+                (after-is : (t : ℕ) → bit after t ≡ (ltb t 64 && reset-by at timed f (h .tokens) taken w s low high t)) (tokens : List ℕ)
+                (settled : Settled (h .tokens) at next tokens) where
               -- The orders are those after the rising edge.
               order-is : (t : ℕ) → t < 64 → bit after t ≡ reset (table bs) (held h .tokens) (bit f) t
               unfolding reset
@@ -236,16 +212,22 @@ module _ (bs : List ℕ) (known timed : ℕ) (acting : Places) (x : Intervals) (
                   ∙ rw (
                     lt-ltb t 64 l,
                     net .timed-is t l,
-                    starved-near from (h .tokens) taken w s (getD low t 0) (getD high t 0) t not-taken,
+                    starved-near at (h .tokens) taken all w s (getD low t 0) (getD high t 0) t
+                        (λ p m e. weighed .taken-is full p m e ∙ sym (listed-at 128 (moved-at f takers w) p m))
+                        (λ p m e. listed-at 128 (moved-at f takers w) p m ∙ not-taken p m e),
                     starved-same (table bs) w s index (record { low = low; high = high }) (net .weights) (net .sorts) clean (net .inputs)
-                        (arcs bs (net .sound)) (input-once bs (net .sound)) t l (h .tokens) taken (bit f) out,
+                        (arcs bs (net .sound)) (input-once bs (net .sound)) t l (h .tokens) all (bit f)
+                        (λ p m. listed-at 128 (moved-at f takers w) p m ∙ takes f p m),
                   )
+                where
+                  all : List ℕ
+                  all = listed 128 (moved-at f takers w)
 
-              settles : (p : ℕ) → p < 128 → getD tokens p 0 ≡ new-at (h .tokens) taken put p
+              settles : (p : ℕ) → p < 128 → getD tokens p 0 ≡ new p
               settles p l = settled .tokens p l ∙ go (has at p) refl
                 where
-                  go : (b : Bool) → has at p ≡ b → cond b (new-at (h .tokens) taken put p) (getD (h .tokens) p 0) ≡ new-at (h .tokens) taken put p
-                  go true e = refl
+                  go : (b : Bool) → has at p ≡ b → cond b (getD next p 0) (getD (h .tokens) p 0) ≡ new p
+                  go true e = weighed .next-is full p l e
                   go false e = sym (stays p l e)
 
               pub stepped : Stepped (table bs) h word (record { fired = f; actions = actions; functions = functions; over = over; orders = after }) tokens counters

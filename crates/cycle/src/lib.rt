@@ -60,10 +60,18 @@ pub fn step(
     let to = moves::touched(fired, outlow, outhigh);
     let at = places::union(from, to);
     let mut taken = [0u32; 128];
-    moves::moved(&mut taken, from, fired, takers, w);
-    let mut put = [0u32; 128];
-    moves::moved(&mut put, to, fired, putters, posts);
-    let over = settle::first_over(at, tokens, &taken, &put);
+    let mut new = [0u32; 128];
+    let over = settle::weigh(
+        &mut taken,
+        &mut new,
+        at,
+        tokens,
+        fired,
+        takers,
+        w,
+        putters,
+        posts,
+    );
     if over < 128 {
         return Outcome {
             fired,
@@ -73,8 +81,8 @@ pub fn step(
             orders,
         };
     }
-    let after = resets::resets(from, timed, fired, tokens, &taken, w, s, low, high);
-    settle::settle(tokens, at, &taken, &put);
+    let after = resets::resets(at, timed, fired, tokens, &taken, w, s, low, high);
+    settle::settle(tokens, at, &new);
     *counters = next;
     Outcome {
         fired,

@@ -27,11 +27,11 @@ use Rattle.fire.specs.Fired.{left-enabled, pays, Ranks, Fires}
 use Rattle.fire.proofs.Rounds.{left-same}
 
 -- The list of f's first n values.
-listed : ℕ → (ℕ → ℕ) → List ℕ
+pub listed : ℕ → (ℕ → ℕ) → List ℕ
 listed zero f = []
 listed (suc n) f = f 0 ∷ listed n (λ k. f (suc k))
 
-listed-at : (n : ℕ) (f : ℕ → ℕ) (k : ℕ) → k < n → getD (listed n f) k 0 ≡ f k
+pub listed-at : (n : ℕ) (f : ℕ → ℕ) (k : ℕ) → k < n → getD (listed n f) k 0 ≡ f k
 unfolding listed
 listed-at zero f k h = absurd (not-suc-le-zero h)
 listed-at (suc n) f zero h = refl

@@ -1,4 +1,4 @@
--- A set moves something only at the places of its members, so what is written there, on zeros, is what it moves at every place.
+-- A set moves something only at the places of its members.
 use mathlib.Core.Bool.{Bool, true, false, cond, _&&_}
 use mathlib.Core.List.{List}
 use mathlib.Core.Path.{_≡_, refl, sym, _∙_}
@@ -11,7 +11,7 @@ use Rattle.meaning.proofs.Bool.{not-both}
 use Rattle.places.specs.declared.Places.{Places}
 use Rattle.places.specs.Set.{has}
 use Rattle.net.specs.Rows.{cell}
-use Rattle.moves.specs.Moves.{moved-at, at-words, Moved}
+use Rattle.moves.specs.Moves.{moved-at, at-words}
 
 -- `at` has the places of the members of `set`, and who has an arc in a place's row has the place.
 module _ (at : Places) (set : ℕ) (rows : List ℕ) (w : List (List ℕ)) (low high : List ℕ)
@@ -27,11 +27,3 @@ module _ (at : Places) (set : ℕ) (rows : List ℕ) (w : List (List ℕ)) (low 
           not-both (rw (a, near p t h l b)) out
       go t l true false a b = refl
       go t l false y a b = refl
-
-  pub moved-everywhere : (before r : List ℕ) → ((p : ℕ) → p < 128 → getD before p 0 ≡ 0) → Moved before at set rows w r
-      → (p : ℕ) → p < 128 → getD r p 0 ≡ moved-at set rows w p
-  moved-everywhere before r zero m p h = m .holds p h ∙ go (has at p) refl
-    where
-      go : (b : Bool) → has at p ≡ b → cond b (moved-at set rows w p) (getD before p 0) ≡ moved-at set rows w p
-      go true e = refl
-      go false e = zero p h ∙ sym (moved-outside p h e)

@@ -4,11 +4,10 @@ use mathlib.Core.List.{List}
 use mathlib.Core.Path.{_≡_}
 use Prim.Native.Nat.{ℕ, _<_}
 use lib.Dec.{eqb}
-use lib.ListN.{length, getD}
+use lib.ListN.{getD}
 use Rattle.meaning.specs.Below.{sum}
 use Rattle.meaning.specs.Bytes.{bit}
 use Rattle.meaning.specs.Table.{Table, post}
-use Rattle.places.specs.declared.Places.{Places}
 use Rattle.places.specs.Set.{has}
 use Rattle.net.specs.Rows.{latest, cell}
 
@@ -24,8 +23,3 @@ moved-at set rows w p = sum 64 (λ t. cond (bit set t && bit (getD rows p 0) t) 
 -- Place p is in the two words of transition t.
 abbrev pub at-words : List ℕ → List ℕ → ℕ → ℕ → Bool
 at-words low high t p = has (record { low = getD low t 0; high = getD high t 0 }) p
-
--- r holds at each of the places what the members of `set` move there, and elsewhere what was there before.
-pub record Moved (before : List ℕ) (at : Places) (set : ℕ) (rows : List ℕ) (w : List (List ℕ)) (r : List ℕ) : Type 0 where
-  pub size : length r ≡ 128
-  pub holds : (p : ℕ) → p < 128 → getD r p 0 ≡ cond (has at p) (moved-at set rows w p) (getD before p 0)

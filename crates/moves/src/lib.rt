@@ -5,13 +5,13 @@ ghost use mathlib.Core.Bool.{cond, _&&_};
 ghost use mathlib.Core.Path.{_≡_};
 ghost use Prim.Native.Nat.{ℕ, _≤_};
 ghost use lib.Dec.{eqb, ltb};
-ghost use lib.ListN.{length, getD, replicate};
+ghost use lib.ListN.{getD, replicate};
 ghost use Rattle.meaning.specs.Below.{some, sum};
 ghost use Rattle.meaning.specs.Bytes.{bit};
 ghost use Rattle.meaning.specs.Table.{table};
 ghost use Rattle.places.specs.Set.{has};
 ghost use Rattle.net.specs.Rows.{Gathered};
-ghost use Rattle.moves.specs.Moves.{Posts, at-words, Moved};
+ghost use Rattle.moves.specs.Moves.{Posts, at-words};
 
 // Is x a post arc, from a transition below 64 to a place below 128?
 fn post(x: Rec) -> bool
@@ -59,6 +59,7 @@ fn wide(x: u16) -> u32
 // The weights in a place's row of the members of `both`, added up: the members are taken out one by one, the lowest first.
 pub fn at_place(both: u64, row: &[u16; 64]) -> u32
     ensures { λ r. ⌜ r ≡ sum 64 (λ t. cond (bit both t) (getD (now (row .entry)) t 0) 0) ⌝ }
+    ensures { λ r. ⌜ r ≤ 4194240 ⌝ }
 {
     let mut left = both;
     let mut t = sets::lowest(left);
@@ -69,20 +70,6 @@ pub fn at_place(both: u64, row: &[u16; 64]) -> u32
         t = sets::lowest(left);
     }
     moved
-}
-
-// At each of the places what the members of `set` move there, by the arcs that its row has; the other places stay as they are.
-pub fn moved(out: &mut [u32; 128], at: Places, set: u64, rows: &[u64; 128], w: &[[u16; 64]; 128])
-    requires { ⌜ length (now out) ≡ 128 ⌝ }
-    ensures { λ _. ⌜ Moved (now (out .entry)) at set (now (rows .entry)) (now (w .entry)) (now (out .exit)) ⌝ }
-{
-    let mut left = at;
-    let mut p = places::first(left);
-    while p < 128 {
-        out[p] = at_place(set & rows[p], &w[p]);
-        left = places::rest(left);
-        p = places::first(left);
-    }
 }
 
 // The places of the members of `set`: each transition has its places in two words.

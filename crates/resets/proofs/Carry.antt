@@ -1,5 +1,5 @@
 -- From the arrays to the table: a transition is starved by the cells of its input arcs exactly if it is by the table.
-use mathlib.Core.Bool.{Bool, true, false, cond, _&&_, _||_, and-true, Bool·beq}
+use mathlib.Core.Bool.{Bool, true, false, cond, _&&_, _||_, and-true, and-false, Bool·beq}
 use mathlib.Core.List.{List}
 use mathlib.Core.Path.{_≡_, refl, sym, ap, _∙_}
 use mathlib.Core.Logic.{⊎-elim}
@@ -33,12 +33,12 @@ low-sort : (k : ℕ) → k < 3 → ltb k 2 ≡ (eqb k 0 || eqb k 1)
 unfolding every
 low-sort k h = beq-true _ _ (every-elim 3 (λ k. Bool·beq (ltb k 2) (eqb k 0 || eqb k 1)) refl k h)
 
--- Places from which nothing is taken starve nobody, so the others are enough.
-pub starved-near : (at : Places) (m taken : List ℕ) (w s : List (List ℕ)) (low high t : ℕ)
-    → ((p : ℕ) → p < 128 → has at p ≡ false → getD taken p 0 ≡ 0)
-    → starved-by m taken w s (bitAnd low (at .low)) (bitAnd high (at .high)) t ≡ starved-by m taken w s low high t
+-- Places from which nothing is taken starve nobody, so those where it is said what is taken are enough.
+pub starved-near : (at : Places) (m taken all : List ℕ) (w s : List (List ℕ)) (low high t : ℕ)
+    → ((p : ℕ) → p < 128 → has at p ≡ true → getD taken p 0 ≡ getD all p 0) → ((p : ℕ) → p < 128 → has at p ≡ false → getD all p 0 ≡ 0)
+    → starved-by m taken w s (bitAnd low (at .low)) (bitAnd high (at .high)) t ≡ starved-by m all w s low high t
 unfolding starved-by
-starved-near at m taken w s low high t none = some-same 128 _ _ (λ p h. go p h (has at p) refl)
+starved-near at m taken all w s low high t same none = some-same 128 _ _ (λ p h. go p h (has at p) refl)
   where
     both : (p : ℕ) (b : Bool) → cond b (bit (bitAnd low (at .low)) p) (bit (bitAnd high (at .high)) (p - 64))
         ≡ (cond b (bit low p) (bit high (p - 64)) && cond b (bit (at .low) p) (bit (at .high) (p - 64)))
@@ -50,15 +50,19 @@ starved-near at m taken w s low high t none = some-same 128 _ _ (λ p h. go p h 
     dead true false c = refl
     dead false b c = refl
 
-    starves : Bool → ℕ → Bool
-    starves x p = x && ltb (cell s p t) 2 && ltb 0 (getD taken p 0) && ltb (getD m p 0 - getD taken p 0) (cell w p t)
+    starves : List ℕ → Bool → ℕ → Bool
+    starves taken x p = x && ltb (cell s p t) 2 && ltb 0 (getD taken p 0) && ltb (getD m p 0 - getD taken p 0) (cell w p t)
 
     go : (p : ℕ) → p < 128 → (b : Bool) → has at p ≡ b
-        → starves (in-words (bitAnd low (at .low)) (bitAnd high (at .high)) p) p ≡ starves (in-words low high p) p
+        → starves taken (in-words (bitAnd low (at .low)) (bitAnd high (at .high)) p) p ≡ starves all (in-words low high p) p
     go p h true e =
-        let same : in-words (bitAnd low (at .low)) (bitAnd high (at .high)) p ≡ in-words low high p = both p (ltb p 64) ∙ rw e (and-true _) in
-        ap (λ (x : Bool). starves x p) same
-    go p h false e = rw (none p h e) (dead (in-words (bitAnd low (at .low)) (bitAnd high (at .high)) p) (ltb (cell s p t) 2) (ltb (getD m p 0 - 0) (cell w p t)) ∙ sym (dead (in-words low high p) (ltb (cell s p t) 2) (ltb (getD m p 0 - 0) (cell w p t))))
+        let words : in-words (bitAnd low (at .low)) (bitAnd high (at .high)) p ≡ in-words low high p = both p (ltb p 64) ∙ rw e (and-true _) in
+        ap (λ (x : Bool). starves taken x p) words
+        ∙ ap (λ (k : ℕ). in-words low high p && ltb (cell s p t) 2 && ltb 0 k && ltb (getD m p 0 - k) (cell w p t)) (same p h e)
+    go p h false e =
+        let words : in-words (bitAnd low (at .low)) (bitAnd high (at .high)) p ≡ false = both p (ltb p 64) ∙ rw e (and-false (in-words low high p)) in
+        ap (λ (x : Bool). starves taken x p) words
+        ∙ sym (rw (none p h e) (dead (in-words low high p) (ltb (cell s p t) 2) (ltb (getD m p 0 - 0) (cell w p t))))
 
 module _ (tb : Table) (w s : List (List ℕ)) (index : List ℕ) (x : Inputs) (gw : Weights tb w) (gs : Sorts tb s) (clean : Clean tb index)
     (gx : Inputs-of index x)

@@ -1,13 +1,9 @@
 // The marking after a step: each place loses the tokens taken and gains the tokens put.
 use places::Places;
-ghost use mathlib.Core.Bool.{cond, _&&_};
 ghost use mathlib.Core.Path.{_≡_};
 ghost use Prim.Native.Nat.{ℕ, _+_, _-_, _≤_, _<_};
-ghost use lib.Dec.{ltb};
 ghost use lib.ListN.{length, getD};
-ghost use Rattle.meaning.specs.Below.{first};
-ghost use Rattle.places.specs.Set.{has};
-ghost use Rattle.settle.specs.Settle.{new-at, Settled};
+ghost use Rattle.settle.specs.Settle.{Weighed, Settled};
 
 // The new tokens of one place; where more are taken than it has, it has none left.
 fn at_place(had: u32, taken: u32, put: u32) -> u32
@@ -18,18 +14,34 @@ fn at_place(had: u32, taken: u32, put: u32) -> u32
     if taken <= had { had - taken + put } else { put }
 }
 
-// The lowest of the places that would have more than 65,535 tokens, 128 if there is none.
-pub fn first_over(at: Places, m: &[u32; 128], taken: &[u32; 128], put: &[u32; 128]) -> usize
+// At each of the places what the members of `set` take and the tokens after the step, up to the first place that would have more than 65,535. The answer
+// is that place, or 128 if there is none.
+pub fn weigh(
+    taken: &mut [u32; 128],
+    next: &mut [u32; 128],
+    at: Places,
+    m: &[u32; 128],
+    set: u64,
+    takers: &[u64; 128],
+    w: &[[u16; 64]; 128],
+    putters: &[u64; 128],
+    posts: &[[u16; 64]; 128],
+) -> usize
+    requires { ⌜ (length (now taken) ≡ 128) × (length (now next) ≡ 128) ⌝ }
     requires { ⌜ ((p : ℕ) → p < 128 → getD (now m) p 0 ≤ 65535) ⌝ }
-    requires { ⌜ ((p : ℕ) → p < 128 → getD (now put) p 0 ≤ 4194240) ⌝ }
-    ensures { λ r. ⌜ r ≡ first 128 (λ p. has at p && ltb 65535 (new-at (now (m .entry)) (now (taken .entry)) (now (put .entry)) p)) ⌝ }
+    ensures { λ r. ⌜ Weighed at (now (m .entry)) set (now (takers .entry)) (now (w .entry)) (now (putters .entry)) (now (posts .entry)) r (now (taken .exit)) (now (next .exit)) ⌝ }
 {
     let mut left = at;
     let mut p = places::first(left);
     while p < 128 {
-        if 65535 < at_place(m[p], taken[p], put[p]) {
+        let lost = moves::at_place(set & takers[p], &w[p]);
+        let gained = moves::at_place(set & putters[p], &posts[p]);
+        let new = at_place(m[p], lost, gained);
+        if 65535 < new {
             return p;
         }
+        taken[p] = lost;
+        next[p] = new;
         left = places::rest(left);
         p = places::first(left);
     }
@@ -37,16 +49,14 @@ pub fn first_over(at: Places, m: &[u32; 128], taken: &[u32; 128], put: &[u32; 12
 }
 
 // The new tokens of each of the places; the others keep theirs.
-pub fn settle(m: &mut [u32; 128], at: Places, taken: &[u32; 128], put: &[u32; 128])
+pub fn settle(m: &mut [u32; 128], at: Places, next: &[u32; 128])
     requires { ⌜ length (now m) ≡ 128 ⌝ }
-    requires { ⌜ ((p : ℕ) → p < 128 → getD (now m) p 0 ≤ 65535) ⌝ }
-    requires { ⌜ ((p : ℕ) → p < 128 → getD (now put) p 0 ≤ 4194240) ⌝ }
-    ensures { λ _. ⌜ Settled (now (m .entry)) at (now (taken .entry)) (now (put .entry)) (now (m .exit)) ⌝ }
+    ensures { λ _. ⌜ Settled (now (m .entry)) at (now (next .entry)) (now (m .exit)) ⌝ }
 {
     let mut left = at;
     let mut p = places::first(left);
     while p < 128 {
-        m[p] = at_place(m[p], taken[p], put[p]);
+        m[p] = next[p];
         left = places::rest(left);
         p = places::first(left);
     }

@@ -1,8 +1,8 @@
 -- `step` meets its contract: each part says of the rows what `Whole` carries to the table.
 use native.Mathlib.Omega.{arith}
-use Prim.Native.Nat.{ℕ, _^_, _≤_, _<_}
-use lib.ListN.{getD, length-replicate}
-use Rattle.cycle.proofs.Whole.{ranks, put-fits, bursts, stepped}
+use Prim.Native.Nat.{ℕ, _^_, _<_}
+use lib.ListN.{length-replicate}
+use Rattle.cycle.proofs.Whole.{ranks, bursts, stepped}
 use borrow.Author.Needs.{needs}
 use Rattle.cycle.proofs.step.Statement.{statement}
 use Rattle.cycle.proofs.step.Tie as tie
@@ -34,11 +34,8 @@ touched-requires-2 c κs = search needs
 union-requires : tie.Need-union-requires
 union-requires c κs = search needs
 
-moved-requires : tie.Need-moved-requires
-moved-requires c κs = length-replicate {A = ℕ} 128 0
-
-moved-requires-2 : tie.Need-moved-requires-2
-moved-requires-2 c κs = length-replicate {A = ℕ} 128 0
+weigh-requires : tie.Need-weigh-requires
+weigh-requires c κs = ((length-replicate {A = ℕ} 128 0, length-replicate {A = ℕ} 128 0), c .before .before .before .before .before .before .before .before .before .before .before .before .before .before .before .before .before .before .before .pre .1 .0 .tokens)
 
 -- Each set is one word.
 fired-low : (c : tie.After-fired) → c .fired .result < 2 ^ 64
@@ -50,40 +47,29 @@ actions-low c = omega arith
 functions-low : (c : tie.After-functions) → c .functions .result < 2 ^ 64
 functions-low c = omega arith
 
--- What is put fits.
-fits : (c : tie.After-moved2) → (p : ℕ) → p < 128 → getD (c .moved2 .last .0) p 0 ≤ 4194240
-fits c =
-    let start = c .before .before .before .before .before .before .before .before .before .before .before .before .before .before .before .before .before .before .before .before in
-    put-fits _ _ _ _ _ _ _ _ _ _ _ _ _ _ _ _ _ _ (start .pre .0) (record { tokens = start .args .tokens .now; counters = start .args .counters .now; orders = start .args .orders }) _ (c .before .before .before .before .before .before .before .before .before .before .before .before .before .before .before .before .before .all-enabled .ensures) _
-    (c .before .before .before .before .before .before .before .before .before .before .before .before .before .before .fall .ensures) _ _ (c .before .before .before .before .before .before .before .before .before .before .before .before .firable .ensures) _ (fired-low (c .before .before .before .before .before .before .before .before .before .before)) (c .before .before .before .before .before .before .before .before .before .before .fired .ensures) _ _ _ (c .before .before .before .before .before .before .touched .ensures) (c .before .before .before .before .before .touched2 .ensures) (c .before .before .before .before .union .ensures) _ _
-    (c .before .before .moved .ensures) (c .moved2 .ensures)
-
-first-over-requires : tie.Need-first-over-requires
-first-over-requires c κs = (c .before .before .before .before .before .before .before .before .before .before .before .before .before .before .before .before .before .before .before .before .before .before .before .pre .1 .0 .tokens, fits (c .before .before .before))
-
 returns : tie.Need-returns
 returns c =
     let m = c .before .before .before .before .before in
-    let start = m .before .before .before .before .before .before .before .before .before .before .before .before .before .before .before .before .before .before .before .before in
-    bursts _ _ _ _ _ _ _ _ _ _ _ _ _ _ _ _ _ _ (start .pre .0) (record { tokens = start .args .tokens .now; counters = start .args .counters .now; orders = start .args .orders }) _ (m .before .before .before .before .before .before .before .before .before .before .before .before .before .before .before .before .before .all-enabled .ensures) _
-    (m .before .before .before .before .before .before .before .before .before .before .before .before .before .before .fall .ensures) _ _ (m .before .before .before .before .before .before .before .before .before .before .before .before .firable .ensures) _ (fired-low (m .before .before .before .before .before .before .before .before .before .before)) (m .before .before .before .before .before .before .before .before .before .before .fired .ensures) _ _ _ (m .before .before .before .before .before .before .touched .ensures) (m .before .before .before .before .before .touched2 .ensures) (m .before .before .before .before .union .ensures) _ _
-    (m .before .before .moved .ensures) (m .moved2 .ensures) (start .pre .1 .0) _ (c .before .first-over .ensures) _ _ (m .before .before .before .before .before .before .before .before .actions .ensures) (m .before .before .before .before .before .before .before .functions .ensures) (actions-low (m .before .before .before .before .before .before .before .before)) (functions-low (m .before .before .before .before .before .before .before))
+    let start = m .before .before .before .before .before .before .before .before .before .before .before .before .before .before .before .before in
+    bursts _ _ _ _ _ _ _ _ _ _ _ _ _ _ _ _ _ _ (start .pre .0) (record { tokens = start .args .tokens .now; counters = start .args .counters .now; orders = start .args .orders }) _ (m .before .before .before .before .before .before .before .before .before .before .before .before .before .all-enabled .ensures) _
+    (m .before .before .before .before .before .before .before .before .before .before .fall .ensures) _ _ (m .before .before .before .before .before .before .before .before .firable .ensures) _ (fired-low (m .before .before .before .before .before .before)) (m .before .before .before .before .before .before .fired .ensures) _ _ _ (m .before .before .touched .ensures) (m .before .touched2 .ensures) (m .union .ensures)
+    (start .pre .1 .0) _ _ _ (c .before .weigh .ensures) _ _ (m .before .before .before .before .actions .ensures) (m .before .before .before .functions .ensures) (actions-low (m .before .before .before .before)) (functions-low (m .before .before .before))
     (c .if1 .taken) (start .pre .1 .1)
 
 resets-requires : tie.Need-resets-requires
 resets-requires c κs = search needs
 
 settle-requires : tie.Need-settle-requires
-settle-requires c κs = (c .before .before .before .before .before .before .before .before .before .before .before .before .before .before .before .before .before .before .before .before .before .before .before .before .before .before .before .before .before .before .before .pre .1 .1 .places, (c .before .before .before .before .before .before .before .before .before .before .before .before .before .before .before .before .before .before .before .before .before .before .before .before .before .before .before .before .before .before .before .pre .1 .0 .tokens, fits (c .before .before .before .before .before .before .before .before .before .before .before)))
+settle-requires c κs = c .before .before .before .before .before .before .before .before .before .before .before .before .before .before .before .before .before .before .before .before .before .before .before .before .before .before .pre .1 .1 .places
 
 returns-2 : tie.Need-returns-2
 returns-2 c =
-    let m = c .before .before .before .before .before .before .before .before .before .before .before .before in
-    let start = m .before .before .before .before .before .before .before .before .before .before .before .before .before .before .before .before .before .before .before .before in
-    stepped _ _ _ _ _ _ _ _ _ _ _ _ _ _ _ _ _ _ (start .pre .0) (record { tokens = start .args .tokens .now; counters = start .args .counters .now; orders = start .args .orders }) _ (m .before .before .before .before .before .before .before .before .before .before .before .before .before .before .before .before .before .all-enabled .ensures) _
-    (m .before .before .before .before .before .before .before .before .before .before .before .before .before .before .fall .ensures) _ _ (m .before .before .before .before .before .before .before .before .before .before .before .before .firable .ensures) _ (fired-low (m .before .before .before .before .before .before .before .before .before .before)) (m .before .before .before .before .before .before .before .before .before .before .fired .ensures) _ _ _ (m .before .before .before .before .before .before .touched .ensures) (m .before .before .before .before .before .touched2 .ensures) (m .before .before .before .before .union .ensures) _ _
-    (m .before .before .moved .ensures) (m .moved2 .ensures) (start .pre .1 .0) _ (c .before .before .before .before .before .before .before .before .first-over .ensures) _ _ (m .before .before .before .before .before .before .before .before .actions .ensures) (m .before .before .before .before .before .before .before .functions .ensures) (actions-low (m .before .before .before .before .before .before .before .before)) (functions-low (m .before .before .before .before .before .before .before))
-    (c .before .before .before .before .before .before .before .if1 .left) _ (c .before .before .before .before .resets .ensures) _ (c .settle .ensures)
+    let m = c .before .before .before .before .before .before .before .before .before .before .before in
+    let start = m .before .before .before .before .before .before .before .before .before .before .before .before .before .before .before .before in
+    stepped _ _ _ _ _ _ _ _ _ _ _ _ _ _ _ _ _ _ (start .pre .0) (record { tokens = start .args .tokens .now; counters = start .args .counters .now; orders = start .args .orders }) _ (m .before .before .before .before .before .before .before .before .before .before .before .before .before .all-enabled .ensures) _
+    (m .before .before .before .before .before .before .before .before .before .before .fall .ensures) _ _ (m .before .before .before .before .before .before .before .before .firable .ensures) _ (fired-low (m .before .before .before .before .before .before)) (m .before .before .before .before .before .before .fired .ensures) _ _ _ (m .before .before .touched .ensures) (m .before .touched2 .ensures) (m .union .ensures)
+    (start .pre .1 .0) _ _ _ (c .before .before .before .before .before .before .before .weigh .ensures) _ _ (m .before .before .before .before .actions .ensures) (m .before .before .before .functions .ensures) (actions-low (m .before .before .before .before)) (functions-low (m .before .before .before))
+    (c .before .before .before .before .before .before .if1 .left) _ (c .before .before .before .resets .ensures) _ (c .settle .ensures)
 
 pub step-spec : {M : Type 1} → statement M
 step-spec =
@@ -98,9 +84,7 @@ step-spec =
     touched-requires
     touched-requires-2
     union-requires
-    moved-requires
-    moved-requires-2
-    first-over-requires
+    weigh-requires
     returns
     resets-requires
     settle-requires

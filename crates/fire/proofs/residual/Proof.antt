@@ -79,7 +79,7 @@ loop-again c =
       length-set (at .rest) (at .p) (put .result) ∙ at .inv .0,
       on 128 _ _ _ (at .inv .1) test _ _ (c .before .rest .ensures) (c .first2 .ensures),
       one-written 128 _ _ _ (at .inv .1) test _ _ (c .before .rest .ensures) (c .first2 .ensures) _ _ (at .rest) (put .result)
-          (omega (arith, at .inv .0)) (at .inv .2) (put .ensures ∙ rw (took .ensures ∙ over-both (a .g) (getD (a .takers .now) (at .p) 0) weight)),
+          (omega (arith, at .inv .0)) (at .inv .2) (put .ensures ∙ rw (took .ensures .0 ∙ over-both (a .g) (getD (a .takers .now) (at .p) 0) weight)),
     )
 
 returns : tie.Need-returns Inv-loop μ-loop

@@ -72,8 +72,10 @@ loop-again c =
 
 returns : tie.Need-returns Inv-loop μ-loop
 returns c =
-    let l = c .before .loop in
-    omega (arith, l .inv .1, over-none (l .left) (l .t) (λ k. getD (c .before .before .before .args .row .now) k 0) (l .inv .0) (c .loop-test .left))
+    let l = c .before .loop in (
+      omega (arith, l .inv .1, over-none (l .left) (l .t) (λ k. getD (c .before .before .before .args .row .now) k 0) (l .inv .0) (c .loop-test .left)),
+      omega (arith, l .inv .2),
+    )
 
 pub at-place-spec : {M : Type 1} → statement M
 at-place-spec =
