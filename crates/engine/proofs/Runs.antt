@@ -16,7 +16,7 @@ use Rattle.meaning.proofs.Decide.{decide-append, accepted-clean}
 use Rattle.meaning.proofs.Tables.{table-refusing}
 use Rattle.meaning.proofs.Run.{verdict, run-refused-leaves, run-goes-on}
 use Rattle.cycle.proofs.Facts.{sound, fine}
-use Rattle.net.specs.Rows.{Gathered, Filled}
+use Rattle.net.specs.Rows.{Gathered}
 use Rattle.moves.specs.Moves.{Posts}
 use Rattle.timing.specs.declared.Intervals.{Intervals}
 use Rattle.timing.specs.Times.{Times-of}
@@ -30,14 +30,15 @@ use Rattle.engine.proofs.Starts.{refused-too, accepted-if}
 use Rattle.engine.proofs.Lent.{lent-same, long-is, fits-is, few-is, room-is}
 
 -- The table is accepted: its rows are read.
-module _ (bs : List ℕ) (j : Finding) (index higher : List ℕ) (judged : Judges bs j index higher) (zero-is : j .number ≡ 0) (x : Intervals)
+module _ (bs : List ℕ) (j : Finding) (index higher : List ℕ) (w s : List (List ℕ)) (takers truths falses : List ℕ)
+    (judged : Judges bs j index higher w s takers truths falses) (zero-is : j .number ≡ 0) (x : Intervals)
     (times : Times-of (table bs) x) where
   table-fine : check bs ≡ accepted 0
   table-fine = accepted-if bs (ap (λ (a : Answer). a .number) (sym (judged .answer)) ∙ zero-is)
 
-  pub read : (w s : List (List ℕ)) (takers truths falses : List ℕ) → Filled (table bs) w s takers truths falses → (posts : List (List ℕ)) (putters : List ℕ)
-      → Posts (table bs) posts → Gathered (table bs) 3 3 putters → Read bs x index higher w s posts takers putters truths falses
-  read w s takers truths falses filled posts putters posts-hold putters-hold =
+  pub read : (posts : List (List ℕ)) (putters : List ℕ) → Posts (table bs) posts → Gathered (table bs) 3 3 putters → Read bs x index higher w s posts takers putters truths falses
+  read posts putters posts-hold putters-hold =
+      let filled = judged .filled zero-is in
       record {
         sound = table-fine;
         index-holds = judged .indexed zero-is;
@@ -73,10 +74,11 @@ module _ (bs img ws report : List ℕ) where
   refused-by-table e n =
       refuses (in-order ∙ refused-too (table-checks bs) behind (λ z. n (ap (λ (b : Answer). b .number) e ∙ z)) ∙ sym e) n
 
-  module _ (j : Finding) (index higher : List ℕ) (judged : Judges bs j index higher) (zero-is : j .number ≡ 0) (x : Intervals)
+  module _ (j : Finding) (index higher : List ℕ) (w s : List (List ℕ)) (takers truths falses : List ℕ)
+      (judged : Judges bs j index higher w s takers truths falses) (zero-is : j .number ≡ 0) (x : Intervals)
       (times : Times-of (table bs) x) where
     accepts : check bs ≡ accepted 0
-    accepts = table-fine bs j index higher judged zero-is x times
+    accepts = table-fine bs j index higher w s takers truths falses judged zero-is x times
 
     same-wrong : first 192 (wrong-by img index x) ≡ first 192 (wrong (table bs) (image img))
     same-wrong =

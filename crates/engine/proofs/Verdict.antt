@@ -28,7 +28,8 @@ use Rattle.meaning.proofs.Tables.{arc-transition}
 use Rattle.table.specs.declared.Pass.{Pass}
 use Rattle.table.specs.Index.{Scanned, names-unknown-at, none-of, lone}
 use Rattle.table.proofs.Carry.{Clean, clean-of, unknown-same, none-same, lone-same, written-bit}
-use Rattle.net.specs.Rows.{Conflicts, Filled}
+use Rattle.net.specs.Rows.{Conflicts}
+use Rattle.rows.specs.Pass.{Filled}
 use Rattle.net.proofs.Carry.{conflict-bit, complementary-bits, inhibits-same}
 use Rattle.priority.specs.Closed.{Closed}
 use Rattle.priority.proofs.Carry.{above-bit, circle-same}
@@ -46,8 +47,10 @@ shown-wanted : {o t s f x : ℕ} → Shown 4 o t s f x → (o ≤ 63) × (t ≤ 
 shown-wanted (Shown.condition a b c) = (a, b, c)
 
 -- A refusal says nothing of the rows.
-pub refusal : (bs : List ℕ) (j : Finding) (index higher : List ℕ) → 0 < j .number → refused (j .number) (j .at) ≡ check bs → Judges bs j index higher
-refusal bs j index higher l e = record { answer = e; indexed = λ z. absurd (omega arith); higher-is = λ z. absurd (omega arith) }
+pub refusal : (bs : List ℕ) (j : Finding) (index higher : List ℕ) (w s : List (List ℕ)) (takers truths falses : List ℕ) → 0 < j .number
+    → refused (j .number) (j .at) ≡ check bs → Judges bs j index higher w s takers truths falses
+refusal bs j index higher w s takers truths falses l e =
+    record { answer = e; indexed = λ z. absurd (omega arith); higher-is = λ z. absurd (omega arith); filled = λ z. absurd (omega arith) }
 
 -- A search that stays below its end and one that reaches it.
 pub reached : (n : ℕ) (p : ℕ → Bool) {k : ℕ} → k ≡ first n p → n ≤ k → first n p ≡ n

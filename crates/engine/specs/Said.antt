@@ -13,6 +13,7 @@ use Rattle.meaning.specs.Defined.{check}
 use Rattle.meaning.specs.Calls.{word-checks}
 use Rattle.records.specs.declared.Rec.{Rec}
 use Rattle.table.specs.Index.{Indexed}
+use Rattle.rows.specs.Pass.{Filled}
 use Rattle.timing.specs.declared.Intervals.{Intervals}
 use Rattle.fit.specs.Fit.{wrong-by}
 use Rattle.engine.specs.declared.Answer.{Answer}
@@ -22,12 +23,13 @@ use Rattle.engine.specs.declared.Finding.{Finding}
 abbrev pub said : Answer → meaning.Answer
 said a = record { number = a .number; at = a .at; cycles = a .cycles }
 
--- What the stages of a table come to: its answer; and, where it is accepted, the index holds all its records and the rows are the closed
--- priority.
-pub record Judges (bs : List ℕ) (j : Finding) (index higher : List ℕ) : Type 0 where
+-- What the stages of a table come to: its answer; and, where it is accepted, the index holds all its records, the rows are the closed
+-- priority, and those of the net are filled.
+pub record Judges (bs : List ℕ) (j : Finding) (index higher : List ℕ) (w s : List (List ℕ)) (takers truths falses : List ℕ) : Type 0 where
   pub answer : meaning.refused (j .number) (j .at) ≡ check bs
   pub indexed : j .number ≡ 0 → Indexed (table bs) (table bs .records) index
   pub higher-is : j .number ≡ 0 → (u t : ℕ) → u < 64 → t < 64 → bit (getD higher u 0) t ≡ above (table bs) u t
+  pub filled : j .number ≡ 0 → Filled (table bs) w s takers truths falses
 
 -- A record that declares a place stores its first tokens in the place's two bytes; any other stores nothing.
 unfoldable pub put-of : List ℕ → Rec → List ℕ

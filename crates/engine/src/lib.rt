@@ -10,7 +10,7 @@ ghost use Rattle.meaning.specs.Table.{table};
 ghost use Rattle.meaning.specs.Defined.{bad-length, check};
 ghost use Rattle.meaning.specs.Image.{image-bytes, fresh};
 ghost use Rattle.meaning.specs.Promise.{Checked, Started, Ran, Looked-up};
-ghost use Rattle.net.specs.Rows.{Filled};
+ghost use Rattle.rows.specs.Pass.{Blank};
 ghost use Rattle.engine.specs.Said.{said, Judges, put-of, lent-checks};
 
 // An answer: its number (0 accepted), the page's where, the cycles done.
@@ -26,23 +26,23 @@ struct Finding {
     at: usize,
 }
 
-// Answers 2 to 9 of a table whose length is right, one stage after the other, by the rows that are filled from it. The index and the rows of
-// the closed priority are lent to be filled on the way.
+// Answers 2 to 9 of a table whose length is right, one stage after the other. The index, the rows of the closed priority and those of the
+// net are lent empty, and filled on the way.
 fn judge(
     t: &[u8],
     index: &mut [u64; 768],
     above: &mut [u64; 64],
-    w: &[[u16; 64]; 128],
-    s: &[[u8; 64]; 128],
-    takers: &[u64; 128],
-    truths: &[u64; 128],
-    falses: &[u64; 128],
+    w: &mut [[u16; 64]; 128],
+    s: &mut [[u8; 64]; 128],
+    takers: &mut [u64; 128],
+    truths: &mut [u64; 128],
+    falses: &mut [u64; 128],
 ) -> Finding
     requires { ⌜ bad-length (now t) ≡ false ⌝ }
-    requires { ⌜ Filled (table (now t)) (now w) (now s) (now takers) (now truths) (now falses) ⌝ }
+    requires { ⌜ Blank (now w) (now s) (now takers) (now truths) (now falses) ⌝ }
     requires { ⌜ now index ≡ replicate 768 0 ⌝ }
     requires { ⌜ length (now above) ≡ 64 ⌝ }
-    ensures { λ j. ⌜ Judges (now (t .entry)) j (now (index .exit)) (now (above .exit)) ⌝ }
+    ensures { λ j. ⌜ Judges (now (t .entry)) j (now (index .exit)) (now (above .exit)) (now (w .exit)) (now (s .exit)) (now (takers .exit)) (now (truths .exit)) (now (falses .exit)) ⌝ }
 {
     let n = t.len() / 8;
     let pass = table::scan(t, index);
@@ -53,7 +53,7 @@ fn judge(
             at,
         };
     }
-    let unknown = table::first_unknown(t, index);
+    let unknown = rows::fill(t, index, w, s, takers, truths, falses);
     if unknown < n {
         return Finding {
             number: 5,
@@ -117,10 +117,18 @@ pub fn check(t: &[u8]) -> Answer
     let mut takers = [0u64; 128];
     let mut truths = [0u64; 128];
     let mut falses = [0u64; 128];
-    net::fill(t, &mut w, &mut s, &mut takers, &mut truths, &mut falses);
     let mut index = [0u64; 768];
     let mut above = [0u64; 64];
-    let j = judge(t, &mut index, &mut above, &w, &s, &takers, &truths, &falses);
+    let j = judge(
+        t,
+        &mut index,
+        &mut above,
+        &mut w,
+        &mut s,
+        &mut takers,
+        &mut truths,
+        &mut falses,
+    );
     Answer {
         number: j.number,
         at: j.at,
@@ -256,10 +264,18 @@ pub fn run(t: &[u8], image: &mut [u8], words: &[u8], report: &mut [u8]) -> Answe
     let mut takers = [0u64; 128];
     let mut truths = [0u64; 128];
     let mut falses = [0u64; 128];
-    net::fill(t, &mut w, &mut s, &mut takers, &mut truths, &mut falses);
     let mut index = [0u64; 768];
     let mut above = [0u64; 64];
-    let j = judge(t, &mut index, &mut above, &w, &s, &takers, &truths, &falses);
+    let j = judge(
+        t,
+        &mut index,
+        &mut above,
+        &mut w,
+        &mut s,
+        &mut takers,
+        &mut truths,
+        &mut falses,
+    );
     if j.number != 0 {
         return Answer {
             number: j.number,

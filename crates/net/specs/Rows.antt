@@ -4,7 +4,7 @@ use mathlib.Core.List.{List, []}
 use mathlib.Core.Path.{_≡_}
 use Prim.Native.Nat.{ℕ, zero, suc, _<_}
 use lib.Dec.{ltb, eqb}
-use lib.ListN.{length, getD, replicate}
+use lib.ListN.{length, getD}
 use Rattle.meaning.specs.Below.{some}
 use Rattle.meaning.specs.Bytes.{bit}
 use Rattle.meaning.specs.Table.{Table, is}
@@ -41,22 +41,6 @@ pub record Weights (tb : Table) (w : List (List ℕ)) : Type 0 where
 
 pub record Sorts (tb : Table) (s : List (List ℕ)) : Type 0 where
   pub holds : (p t : ℕ) → p < 128 → t < 64 → cell s p t ≡ latest (tb .records) (input tb p t) (tb .sort)
-
--- Nothing is kept yet.
-pub record Blank (w s : List (List ℕ)) (takers truths falses : List ℕ) : Type 0 where
-  pub no-weights : w ≡ replicate 128 (replicate 64 0)
-  pub no-sorts : s ≡ replicate 128 (replicate 64 0)
-  pub no-takers : takers ≡ replicate 128 0
-  pub no-truths : truths ≡ replicate 128 0
-  pub no-falses : falses ≡ replicate 128 0
-
--- Weights and sorts; who takes from a place; what a transition wants true, and what false.
-pub record Filled (tb : Table) (w s : List (List ℕ)) (takers truths falses : List ℕ) : Type 0 where
-  pub weights : Weights tb w
-  pub sorts : Sorts tb s
-  pub takers-hold : Gathered tb 3 0 takers
-  pub truths-hold : Gathered tb 4 0 truths
-  pub falses-hold : Gathered tb 4 1 falses
 
 -- Some place has an arc of sort 0 or 1 to i and one of sort 2 and the same weight to j.
 unfoldable pub inhibits-by : List (List ℕ) → List (List ℕ) → ℕ → ℕ → Bool

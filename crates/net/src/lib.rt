@@ -6,9 +6,9 @@ ghost use mathlib.Core.Path.{_≡_};
 ghost use lib.Dec.{eqb, ltb};
 ghost use lib.ListN.{length, replicate};
 ghost use Prim.Native.Nat.{ℕ, _+_};
-ghost use Rattle.meaning.specs.Table.{Table, table};
+ghost use Rattle.meaning.specs.Table.{Table};
 ghost use Rattle.records.specs.Record.{Reads};
-ghost use Rattle.net.specs.Rows.{Shared, Conflicts, Blank, Filled, inhibits-by};
+ghost use Rattle.net.specs.Rows.{Shared, Conflicts, inhibits-by};
 ghost use Rattle.net.specs.Grow.{names, Grown, Kept};
 
 // Is x of this kind and sort, with byte 1 below 128?
@@ -48,7 +48,7 @@ pub fn name(rows: &mut [u64; 128], x: Rec, kind: u8, sort: u8)
 }
 
 // An input arc leaves its weight and its sort at its place and transition.
-fn keep(w: &mut [[u16; 64]; 128], s: &mut [[u8; 64]; 128], x: Rec)
+pub fn keep(w: &mut [[u16; 64]; 128], s: &mut [[u8; 64]; 128], x: Rec)
     ensures { λ _. ⌜ ((tb : Table) (r : ℕ) → Reads tb r x → Kept tb (tb .four) r (now (w .entry)) → Kept tb (tb .sort) r (now (s .entry)) → Kept tb (tb .four) (r + 1) (now (w .exit)) × Kept tb (tb .sort) (r + 1) (now (s .exit))) ⌝ }
 {
     let one = records::wide(x.one);
@@ -56,31 +56,6 @@ fn keep(w: &mut [[u16; 64]; 128], s: &mut [[u8; 64]; 128], x: Rec)
     if input(x) {
         w[one][two] = x.four;
         s[one][two] = x.sort;
-    }
-}
-
-// One pass over the records fills the rows that are lent empty: the input arcs' weights and sorts, place by transition; who takes from each
-// place; which conditions each transition wants true, and which false.
-pub fn fill(
-    t: &[u8],
-    w: &mut [[u16; 64]; 128],
-    s: &mut [[u8; 64]; 128],
-    takers: &mut [u64; 128],
-    truths: &mut [u64; 128],
-    falses: &mut [u64; 128],
-)
-    requires { ⌜ Blank (now w) (now s) (now takers) (now truths) (now falses) ⌝ }
-    ensures { λ _. ⌜ Filled (table (now (t .entry))) (now (w .exit)) (now (s .exit)) (now (takers .exit)) (now (truths .exit)) (now (falses .exit)) ⌝ }
-{
-    let n = t.len() / 8;
-    let mut r = 0;
-    while r < n {
-        let x = records::read(t, r);
-        keep(w, s, x);
-        name(takers, x, 3, 0);
-        name(truths, x, 4, 0);
-        name(falses, x, 4, 1);
-        r += 1;
     }
 }
 

@@ -8,7 +8,7 @@ ghost use lib.ListN.{getD, replicate};
 ghost use Rattle.meaning.specs.Below.{some, first};
 ghost use Rattle.meaning.specs.Bytes.{bit};
 ghost use Rattle.meaning.specs.Table.{table};
-ghost use Rattle.table.specs.Index.{plain-blocks, block, row-of, Scanned, has-transition, names-unknown, names-unknown-at, none-of, lone};
+ghost use Rattle.table.specs.Index.{plain-blocks, block, row-of, Scanned, has-transition, names-unknown, none-of, lone};
 
 // The first row of each kind's block: places, transitions, input arcs, conditions, priorities, actions, functions. Row 320 begins the post arcs.
 const BLOCK: [usize; 8] = [0, 0, 128, 192, 448, 512, 576, 704];
@@ -93,7 +93,7 @@ fn lacks(rows: &[u64; 768], q: usize) -> bool
 }
 
 // Does the record name a place or a transition that the index does not have?
-fn unknown(x: Rec, rows: &[u64; 768]) -> bool
+pub fn unknown(x: Rec, rows: &[u64; 768]) -> bool
     ensures { λ r. ⌜ r ≡ names-unknown (now (rows .entry)) x ⌝ }
 {
     let kind = x.kind;
@@ -121,22 +121,6 @@ fn unknown(x: Rec, rows: &[u64; 768]) -> bool
         return lacks(rows, 128 + one);
     }
     false
-}
-
-// The first record that names an unknown, or the number of records.
-pub fn first_unknown(t: &[u8], rows: &[u64; 768]) -> usize
-    ensures { λ r. ⌜ r ≡ first (table (now (t .entry)) .records) (names-unknown-at (table (now (t .entry))) (now (rows .entry))) ⌝ }
-{
-    let n = t.len() / 8;
-    let mut r = 0;
-    while r < n {
-        let x = records::read(t, r);
-        if unknown(x, rows) {
-            return r;
-        }
-        r += 1;
-    }
-    n
 }
 
 // Do all these rows lack their bit 0?

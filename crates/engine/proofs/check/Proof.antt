@@ -11,15 +11,14 @@ returns c = record { answer-is = sym (answer-1 _ (length-odd _ (c .if1 .taken)))
 returns-2 : tie.Need-returns-2
 returns-2 c = record { answer-is = sym (answer-1 _ (length-long _ (c .if2 .taken))) }
 
-fill-requires : tie.Need-fill-requires
-fill-requires c κs = search needs
-
 judge-requires : tie.Need-judge-requires
-judge-requires c κs =
-    (length-right _ (c .before .before .before .before .before .before .before .before .before .before .before .before .before .before .if1 .left) (c .before .before .before .before .before .before .before .before .before .before .before .before .before .if2 .left), (c .before .before .before .before .before .before .before .fill .ensures, (refl, refl)))
+judge-requires c κs = (
+  length-right _ (c .before .before .before .before .before .before .before .before .if1 .left) (c .before .before .before .before .before .before .before .if2 .left),
+  (record { no-weights = refl; no-sorts = refl; no-takers = refl; no-truths = refl; no-falses = refl }, (refl, refl)),
+)
 
 returns-3 : tie.Need-returns-3
 returns-3 c = search needs
 
 pub check-spec : {M : Type 1} → statement M
-check-spec = tie.close (tie.spec returns returns-2 fill-requires judge-requires returns-3)
+check-spec = tie.close (tie.spec returns returns-2 judge-requires returns-3)

@@ -19,18 +19,19 @@ returns c =
     let scanned = one .before in
     let start = scanned .before .before .before in
     let v = verdict-2 _ (start .pre .0) (scanned .scan .result) _ (scanned .scan .ensures) (one .if1 .taken) in
-    refusal _ _ _ _ (rw (c .wide .ensures) (v .0)) (rw (c .wide .ensures) (v .1))
+    refusal _ _ _ _ _ _ _ _ _ (rw (c .wide .ensures) (v .0)) (rw (c .wide .ensures) (v .1))
 
-first-unknown-requires : tie.Need-first-unknown-requires
-first-unknown-requires c κs = search needs
+fill-requires : tie.Need-fill-requires
+fill-requires c κs = search needs
 
 returns-2 : tie.Need-returns-2
 unfolding table
 returns-2 c =
-    let one = c .before .before .before in
+    let one = c .before .before .before .before .before .before .before .before in
     let scanned = one .before in
     let start = scanned .before .before .before in
-    refusal _ _ _ _ (omega arith) (verdict-5 _ (start .pre .0) (scanned .scan .result) _ (scanned .scan .ensures) (one .if1 .left) _ (c .before .first-unknown .ensures) (c .if2 .taken))
+    refusal _ _ _ _ _ _ _ _ _ (omega arith)
+    (verdict-5 _ (start .pre .0) (scanned .scan .result) _ (scanned .scan .ensures) (one .if1 .left) _ (c .before .fill .ensures .unknown) (c .if2 .taken))
 
 first-none-requires : tie.Need-first-none-requires
 first-none-requires c κs = search needs
@@ -39,10 +40,11 @@ returns-3 : tie.Need-returns-3
 unfolding table
 returns-3 c =
     let two = c .before .before .before in
-    let one = two .before .before .before in
+    let one = two .before .before .before .before .before .before .before .before in
     let scanned = one .before in
     let start = scanned .before .before .before in
-    refusal _ _ _ _ (omega arith) (verdict-6 _ (start .pre .0) (scanned .scan .result) _ (scanned .scan .ensures) (one .if1 .left) _ (two .before .first-unknown .ensures) (two .if2 .left) _ (c .before .first-none .ensures) (c .if3 .taken))
+    refusal _ _ _ _ _ _ _ _ _ (omega arith)
+    (verdict-6 _ (start .pre .0) (scanned .scan .result) _ (scanned .scan .ensures) (one .if1 .left) _ (two .before .fill .ensures .unknown) (two .if2 .left) _ (c .before .first-none .ensures) (c .if3 .taken))
 
 first-lone-requires : tie.Need-first-lone-requires
 first-lone-requires c κs = search needs
@@ -52,10 +54,11 @@ unfolding table
 returns-4 c =
     let three = c .before .before .before in
     let two = three .before .before .before in
-    let one = two .before .before .before in
+    let one = two .before .before .before .before .before .before .before .before in
     let scanned = one .before in
     let start = scanned .before .before .before in
-    refusal _ _ _ _ (omega arith) (verdict-7 _ (start .pre .0) (scanned .scan .result) _ (scanned .scan .ensures) (one .if1 .left) _ (two .before .first-unknown .ensures) (two .if2 .left) _ (three .before .first-none .ensures) (three .if3 .left) _ (c .before .first-lone .ensures) (c .if4 .taken))
+    refusal _ _ _ _ _ _ _ _ _ (omega arith)
+    (verdict-7 _ (start .pre .0) (scanned .scan .result) _ (scanned .scan .ensures) (one .if1 .left) _ (two .before .fill .ensures .unknown) (two .if2 .left) _ (three .before .first-none .ensures) (three .if3 .left) _ (c .before .first-lone .ensures) (c .if4 .taken))
 
 close-requires : tie.Need-close-requires
 close-requires c κs = search needs
@@ -69,10 +72,11 @@ returns-5 c =
     let four = c .before .before .before .before .before .before in
     let three = four .before .before .before in
     let two = three .before .before .before in
-    let one = two .before .before .before in
+    let one = two .before .before .before .before .before .before .before .before in
     let scanned = one .before in
     let start = scanned .before .before .before in
-    refusal _ _ _ _ (omega arith) (verdict-8 _ (start .pre .0) (scanned .scan .result) _ (scanned .scan .ensures) (one .if1 .left) _ (two .before .first-unknown .ensures) (two .if2 .left) _ (three .before .first-none .ensures) (three .if3 .left) _ (four .before .first-lone .ensures) (four .if4 .left) _ (c .before .before .before .close .ensures) _ (c .before .circle .ensures) (c .if5 .taken))
+    refusal _ _ _ _ _ _ _ _ _ (omega arith)
+    (verdict-8 _ (start .pre .0) (scanned .scan .result) _ (scanned .scan .ensures) (one .if1 .left) _ (two .before .fill .ensures .unknown) (two .if2 .left) _ (three .before .first-none .ensures) (three .if3 .left) _ (four .before .first-lone .ensures) (four .if4 .left) _ (c .before .before .before .close .ensures) _ (c .before .circle .ensures) (c .if5 .taken))
 
 conflicts-requires : tie.Need-conflicts-requires
 conflicts-requires c κs = search needs
@@ -83,29 +87,31 @@ clash-requires c κs = search needs
 returns-6 : tie.Need-returns-6
 unfolding table
 returns-6 c =
-    let five = c .before .before .before .before .before .before in
+    let five = c .before .before .before .before .before .before .before .before .before .before .before in
     let four = five .before .before .before .before .before .before in
     let three = four .before .before .before in
     let two = three .before .before .before in
-    let one = two .before .before .before in
+    let one = two .before .before .before .before .before .before .before .before in
     let scanned = one .before in
     let start = scanned .before .before .before in
-    refusal _ _ _ _ (omega arith) (verdict-9 _ (start .pre .0) (scanned .scan .result) _ (scanned .scan .ensures) (one .if1 .left) _ (two .before .first-unknown .ensures) (two .if2 .left) _ (three .before .first-none .ensures) (three .if3 .left) _ (four .before .first-lone .ensures) (four .if4 .left) _ (five .before .before .before .close .ensures) _ (five .before .circle .ensures) (five .if5 .left) _ _ _ _ _ (start .pre .1 .0) _ (c .before .before .before .before .conflicts2 .ensures) _ (c .before .clash .ensures) (c .if6 .taken))
+    refusal _ _ _ _ _ _ _ _ _ (omega arith)
+    (verdict-9 _ (start .pre .0) (scanned .scan .result) _ (scanned .scan .ensures) (one .if1 .left) _ (two .before .fill .ensures .unknown) (two .if2 .left) _ (three .before .first-none .ensures) (three .if3 .left) _ (four .before .first-lone .ensures) (four .if4 .left) _ (five .before .before .before .close .ensures) _ (five .before .circle .ensures) (five .if5 .left) _ _ _ _ _ (two .before .fill .ensures .filled (two .if2 .left)) _ (c .before .before .before .before .before .before .before .before .conflicts2 .ensures) _ (c .before .clash .ensures) (c .if6 .taken))
 
 returns-7 : tie.Need-returns-7
 unfolding table
 returns-7 c =
-    let five = c .before .before .before .before .before .before in
+    let five = c .before .before .before .before .before .before .before .before .before .before .before in
     let four = five .before .before .before .before .before .before in
     let three = four .before .before .before in
     let two = three .before .before .before in
-    let one = two .before .before .before in
+    let one = two .before .before .before .before .before .before .before .before in
     let scanned = one .before in
     let start = scanned .before .before .before in
     record {
-      answer = verdict-0 _ (start .pre .0) (scanned .scan .result) _ (scanned .scan .ensures) (one .if1 .left) _ (two .before .first-unknown .ensures) (two .if2 .left) _ (three .before .first-none .ensures) (three .if3 .left) _ (four .before .first-lone .ensures) (four .if4 .left) _ (five .before .before .before .close .ensures) _ (five .before .circle .ensures) (five .if5 .left) _ _ _ _ _ (start .pre .1 .0) _ (c .before .before .before .before .conflicts2 .ensures) _ (c .before .clash .ensures) (c .if6 .left);
+      answer = verdict-0 _ (start .pre .0) (scanned .scan .result) _ (scanned .scan .ensures) (one .if1 .left) _ (two .before .fill .ensures .unknown) (two .if2 .left) _ (three .before .first-none .ensures) (three .if3 .left) _ (four .before .first-lone .ensures) (four .if4 .left) _ (five .before .before .before .close .ensures) _ (five .before .circle .ensures) (five .if5 .left) _ _ _ _ _ (two .before .fill .ensures .filled (two .if2 .left)) _ (c .before .before .before .before .before .before .before .before .conflicts2 .ensures) _ (c .before .clash .ensures) (c .if6 .left);
       indexed = λ z. clean _ (start .pre .0) (scanned .scan .result) _ (scanned .scan .ensures) (one .if1 .left) .index;
-      higher-is = λ z. above-is _ (start .pre .0) (scanned .scan .result) _ (scanned .scan .ensures) (one .if1 .left) _ (two .before .first-unknown .ensures) (two .if2 .left) _ (three .before .first-none .ensures) (three .if3 .left) _ (four .before .first-lone .ensures) (four .if4 .left) _ (five .before .before .before .close .ensures);
+      higher-is = λ z. above-is _ (start .pre .0) (scanned .scan .result) _ (scanned .scan .ensures) (one .if1 .left) _ (two .before .fill .ensures .unknown) (two .if2 .left) _ (three .before .first-none .ensures) (three .if3 .left) _ (four .before .first-lone .ensures) (four .if4 .left) _ (five .before .before .before .close .ensures);
+      filled = λ z. two .before .fill .ensures .filled (two .if2 .left);
     }
 
 pub judge-spec : {M : Type 1} → statement M
@@ -115,7 +121,7 @@ judge-spec =
     scan-requires
     wide-requires
     returns
-    first-unknown-requires
+    fill-requires
     returns-2
     first-none-requires
     returns-3

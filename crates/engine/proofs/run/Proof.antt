@@ -14,12 +14,11 @@ returns c = refused-by-table _ _ _ _ (sym (answer-1 _ (length-odd _ (c .if1 .tak
 returns-2 : tie.Need-returns-2
 returns-2 c = refused-by-table _ _ _ _ (sym (answer-1 _ (length-long _ (c .if2 .taken)))) (λ z. absurd (omega arith))
 
-fill-requires : tie.Need-fill-requires
-fill-requires c κs = search needs
-
 judge-requires : tie.Need-judge-requires
-judge-requires c κs =
-    (length-right _ (c .before .before .before .before .before .before .before .before .before .before .before .before .before .before .if1 .left) (c .before .before .before .before .before .before .before .before .before .before .before .before .before .if2 .left), (c .before .before .before .before .before .before .before .fill .ensures, (refl, refl)))
+judge-requires c κs = (
+  length-right _ (c .before .before .before .before .before .before .before .before .if1 .left) (c .before .before .before .before .before .before .before .if2 .left),
+  (record { no-weights = refl; no-sorts = refl; no-takers = refl; no-truths = refl; no-falses = refl }, (refl, refl)),
+)
 
 returns-3 : tie.Need-returns-3
 returns-3 c = refused-by-table _ _ _ _ (c .before .before .judge .ensures .answer) (c .if3 .taken)
@@ -41,7 +40,7 @@ returns-4 c =
     let lent = c .before .before in
     let timed = lent .before .before .before .before in
     let judged = timed .before .before .before in
-    refused-by-lent _ _ _ _ _ _ _ (judged .judge .ensures) (timed .before .if3 .left) _ (timed .times .ensures) (lent .judge-lent .ensures) (c .if4 .taken)
+    refused-by-lent _ _ _ _ _ _ _ _ _ _ _ _ (judged .judge .ensures) (timed .before .if3 .left) _ (timed .times .ensures) (lent .judge-lent .ensures) (c .if4 .taken)
 
 posts-requires : tie.Need-posts-requires
 posts-requires c κs = search needs
@@ -53,9 +52,9 @@ course-requires c κs =
     let timed = lent .before .before .before .before in
     let judged = timed .before .before .before in
     let none = ap (λ (a : Answer). a .number) (sym (lent .judge-lent .ensures)) ∙ put .before .before .before .if4 .left in (
-      read _ _ _ _ (judged .judge .ensures) (timed .before .if3 .left) _ (timed .times .ensures) _ _ _ _ _ (judged .before .before .before .before .before .before .before .before .fill .ensures) _ _
-          (put .posts2 .ensures .0) (put .posts2 .ensures .1),
-      ready _ _ _ _ _ _ _ (judged .judge .ensures) (timed .before .if3 .left) _ (timed .times .ensures) none,
+      read _ _ _ _ _ _ _ _ _ (judged .judge .ensures) (timed .before .if3 .left) _ (timed .times .ensures) _ _ (put .posts2 .ensures .0)
+          (put .posts2 .ensures .1),
+      ready _ _ _ _ _ _ _ _ _ _ _ _ (judged .judge .ensures) (timed .before .if3 .left) _ (timed .times .ensures) none,
     )
 
 same-length-3 : tie.Need-same-length-3
@@ -72,7 +71,7 @@ returns-5 c =
     let timed = lent .before .before .before .before in
     let judged = timed .before .before .before in
     let none = ap (λ (a : Answer). a .number) (sym (lent .judge-lent .ensures)) ∙ put .before .before .before .if4 .left in
-    ran-through _ _ _ _ _ _ _ (judged .judge .ensures) (timed .before .if3 .left) _ (timed .times .ensures) none _ _ _ (done .course .ensures)
+    ran-through _ _ _ _ _ _ _ _ _ _ _ _ (judged .judge .ensures) (timed .before .if3 .left) _ (timed .times .ensures) none _ _ _ (done .course .ensures)
 
 pub run-spec : {M : Type 1} → statement M
 run-spec =
@@ -80,7 +79,6 @@ run-spec =
     (tie.spec
     returns
     returns-2
-    fill-requires
     judge-requires
     returns-3
     times-requires

@@ -1,0 +1,2 @@
+-- What the pass over the records leaves.
+pub mod Pass
