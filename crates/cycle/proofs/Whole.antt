@@ -2,7 +2,7 @@
 use mathlib.Core.Bool.{Bool, true, false, cond, not, _&&_, _||_}
 use mathlib.Core.List.{List}
 use mathlib.Core.Path.{_≡_, refl, sym, ap, _∙_, fun-ext}
-use Prim.Native.Nat.{ℕ, _+_, _^_, _≤_, _<_}
+use Prim.Native.Nat.{ℕ, _+_, _-_, _^_, _≤_, _<_}
 use native.Mathlib.Omega.{arith}
 use lib.Dec.{ltb, eqb}
 use lib.ListN.{getD}
@@ -160,8 +160,8 @@ module _ (bs : List ℕ) (known timed : ℕ) (acting : Places) (x : Intervals) (
               let here : new p ≡ marked (table bs) (held h .tokens) (bit f) p = rw (takes f p l, puts f p l) in
               here ∙ ap (λ (F : ℕ → Bool). marked (table bs) (held h .tokens) F p) one-set
 
-          module _ (small : Small h) (over : ℕ) (taken next : List ℕ)
-              (weighed : Weighed at (h .tokens) f takers w putters posts over taken next)
+          module _ (small : Small h) (over : ℕ) (taken put : List ℕ)
+              (weighed : Weighed at (h .tokens) f takers w putters posts over taken put)
               (actions functions : ℕ)
               (actions-is : (k : ℕ) → bit actions k ≡ some 128 (λ p. has acting p && (ltb 0 (getD (h .tokens) p 0) && bit (getD index (576 + p) 0) k)))
               (functions-is : (k : ℕ) → bit functions k ≡ some 64 (λ t. bit f t && bit (getD index (704 + t) 0) k))
@@ -203,7 +203,7 @@ module _ (bs : List ℕ) (known timed : ℕ) (acting : Places) (x : Intervals) (
 
             module _ (full : 128 ≤ over) (after : ℕ)
                 (after-is : (t : ℕ) → bit after t ≡ (ltb t 64 && reset-by at timed f (h .tokens) taken w s low high t)) (tokens : List ℕ)
-                (settled : Settled (h .tokens) at next tokens) where
+                (settled : Settled (h .tokens) at taken put tokens) where
               -- The orders are those after the rising edge.
               order-is : (t : ℕ) → t < 64 → bit after t ≡ reset (table bs) (held h .tokens) (bit f) t
               unfolding reset
@@ -226,8 +226,8 @@ module _ (bs : List ℕ) (known timed : ℕ) (acting : Places) (x : Intervals) (
               settles : (p : ℕ) → p < 128 → getD tokens p 0 ≡ new p
               settles p l = settled .tokens p l ∙ go (has at p) refl
                 where
-                  go : (b : Bool) → has at p ≡ b → cond b (getD next p 0) (getD (h .tokens) p 0) ≡ new p
-                  go true e = weighed .next-is full p l e
+                  go : (b : Bool) → has at p ≡ b → cond b (getD (h .tokens) p 0 - getD taken p 0 + getD put p 0) (getD (h .tokens) p 0) ≡ new p
+                  go true e = rw (weighed .taken-is full p l e, weighed .put-is full p l e)
                   go false e = sym (stays p l e)
 
               pub stepped : Stepped (table bs) h word (record { fired = f; actions = actions; functions = functions; over = over; orders = after }) tokens counters

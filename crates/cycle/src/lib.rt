@@ -60,10 +60,10 @@ pub fn step(
     let to = moves::touched(fired, outlow, outhigh);
     let at = places::union(from, to);
     let mut taken = [0u32; 128];
-    let mut new = [0u32; 128];
+    let mut put = [0u32; 128];
     let over = settle::weigh(
         &mut taken,
-        &mut new,
+        &mut put,
         at,
         tokens,
         fired,
@@ -82,7 +82,7 @@ pub fn step(
         };
     }
     let after = resets::resets(at, timed, fired, tokens, &taken, w, s, low, high);
-    settle::settle(tokens, at, &new);
+    settle::settle(tokens, at, &taken, &put);
     *counters = next;
     Outcome {
         fired,

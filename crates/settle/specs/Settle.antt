@@ -14,15 +14,15 @@ use Rattle.moves.specs.Moves.{moved-at}
 abbrev pub new-at : List ℕ → ℕ → List ℕ → List (List ℕ) → List ℕ → List (List ℕ) → ℕ → ℕ
 new-at m set takers w putters posts p = getD m p 0 - moved-at set takers w p + moved-at set putters posts p
 
--- The first of the places that would have more than 65,535 tokens, 128 if there is none; and then what is taken and the new tokens of each of them.
+-- The first of the places that would have more than 65,535 tokens, 128 if there is none; and then what is taken and what is put at each of them.
 pub record Weighed (at : Places) (m : List ℕ) (set : ℕ) (takers : List ℕ) (w : List (List ℕ)) (putters : List ℕ) (posts : List (List ℕ)) (over : ℕ)
-    (taken next : List ℕ) : Type 0 where
+    (taken put : List ℕ) : Type 0 where
   pub over-is : over ≡ first 128 (λ p. has at p && ltb 65535 (new-at m set takers w putters posts p))
   pub taken-is : 128 ≤ over → (p : ℕ) → p < 128 → has at p ≡ true → getD taken p 0 ≡ moved-at set takers w p
-  pub next-is : 128 ≤ over → (p : ℕ) → p < 128 → has at p ≡ true → getD next p 0 ≡ new-at m set takers w putters posts p
-  pub sizes : (length taken ≡ 128) × (length next ≡ 128)
+  pub put-is : 128 ≤ over → (p : ℕ) → p < 128 → has at p ≡ true → getD put p 0 ≡ moved-at set putters posts p
+  pub sizes : (length taken ≡ 128) × (length put ≡ 128)
 
--- r has the next tokens of each of the places, and elsewhere those that were there.
-pub record Settled (m : List ℕ) (at : Places) (next r : List ℕ) : Type 0 where
+-- r has the new tokens of each of the places, and elsewhere those that were there.
+pub record Settled (m : List ℕ) (at : Places) (taken put r : List ℕ) : Type 0 where
   pub size : length r ≡ 128
-  pub tokens : (p : ℕ) → p < 128 → getD r p 0 ≡ cond (has at p) (getD next p 0) (getD m p 0)
+  pub tokens : (p : ℕ) → p < 128 → getD r p 0 ≡ cond (has at p) (getD m p 0 - getD taken p 0 + getD put p 0) (getD m p 0)

@@ -2,6 +2,7 @@
 use native.Mathlib.Omega.{arith}
 use Prim.Native.Nat.{ℕ, _^_, _<_}
 use lib.ListN.{length-replicate}
+use Rattle.settle.proofs.Little.{put-low}
 use Rattle.cycle.proofs.Whole.{ranks, bursts, stepped}
 use borrow.Author.Needs.{needs}
 use Rattle.cycle.proofs.step.Statement.{statement}
@@ -60,16 +61,19 @@ resets-requires : tie.Need-resets-requires
 resets-requires c κs = search needs
 
 settle-requires : tie.Need-settle-requires
-settle-requires c κs = c .before .before .before .before .before .before .before .before .before .before .before .before .before .before .before .before .before .before .before .before .before .before .before .before .before .before .pre .1 .1 .places
+settle-requires c κs =
+    let weighed = c .before .before .before .before .before .before .before in
+    let start = weighed .before .before .before .before .before .before .before .before .before .before .before .before .before .before .before .before .before .before .before .before in
+    (start .pre .1 .1 .places, λ p l e. (start .pre .1 .0 .tokens p l, put-low (weighed .weigh .ensures) (c .before .before .before .before .before .before .if1 .left) p l e))
 
 returns-2 : tie.Need-returns-2
 returns-2 c =
-    let m = c .before .before .before .before .before .before .before .before .before .before .before in
+    let m = c .before .before .before .before .before .before .before .before .before .before .before .before in
     let start = m .before .before .before .before .before .before .before .before .before .before .before .before .before .before .before .before in
     stepped _ _ _ _ _ _ _ _ _ _ _ _ _ _ _ _ _ _ (start .pre .0) (record { tokens = start .args .tokens .now; counters = start .args .counters .now; orders = start .args .orders }) _ (m .before .before .before .before .before .before .before .before .before .before .before .before .before .all-enabled .ensures) _
     (m .before .before .before .before .before .before .before .before .before .before .fall .ensures) _ _ (m .before .before .before .before .before .before .before .before .firable .ensures) _ (fired-low (m .before .before .before .before .before .before)) (m .before .before .before .before .before .before .fired .ensures) _ _ _ (m .before .before .touched .ensures) (m .before .touched2 .ensures) (m .union .ensures)
-    (start .pre .1 .0) _ _ _ (c .before .before .before .before .before .before .before .weigh .ensures) _ _ (m .before .before .before .before .actions .ensures) (m .before .before .before .functions .ensures) (actions-low (m .before .before .before .before)) (functions-low (m .before .before .before))
-    (c .before .before .before .before .before .before .if1 .left) _ (c .before .before .before .resets .ensures) _ (c .settle .ensures)
+    (start .pre .1 .0) _ _ _ (c .before .before .before .before .before .before .before .before .weigh .ensures) _ _ (m .before .before .before .before .actions .ensures) (m .before .before .before .functions .ensures) (actions-low (m .before .before .before .before)) (functions-low (m .before .before .before))
+    (c .before .before .before .before .before .before .before .if1 .left) _ (c .before .before .before .before .resets .ensures) _ (c .settle .ensures)
 
 pub step-spec : {M : Type 1} → statement M
 step-spec =

@@ -1,4 +1,4 @@
--- `weigh` meets its contract: of the places no one before p is above 65,535, and each of them has what is taken and its new tokens.
+-- `weigh` meets its contract: of the places no one before p is above 65,535, and each of them has what is taken and what is put.
 use mathlib.Core.Bool.{false, _&&_}
 use mathlib.Core.Path.{_≡_, sym, ap, _∙_}
 use Prim.Native.Nat.{ℕ, _+_, _-_, _≤_, _<_}
@@ -19,14 +19,14 @@ use Rattle.settle.proofs.weigh.Statement.{statement}
 use Rattle.settle.proofs.weigh.Tie as tie
 
 abbrev Inv-loop : tie.InvT-loop
-Inv-loop taken₀ next₀ m set takers w putters posts left₀ p₀ taken next left p =
-    (length taken ≡ 128) × (length next ≡ 128) × Walked 128 (has left₀) (has left) p
+Inv-loop taken₀ put₀ m set takers w putters posts left₀ p₀ taken put left p =
+    (length taken ≡ 128) × (length put ≡ 128) × Walked 128 (has left₀) (has left) p
     × ((q : ℕ) → q < p → (has left₀ q && ltb 65535 (new-at m set takers w putters posts q)) ≡ false)
     × Written 128 (has left₀) (moved-at set takers w) (λ q. getD taken₀ q 0) taken p
-    × Written 128 (has left₀) (new-at m set takers w putters posts) (λ q. getD next₀ q 0) next p
+    × Written 128 (has left₀) (moved-at set putters posts) (λ q. getD put₀ q 0) put p
 
 abbrev μ-loop : tie.MeasureT-loop
-μ-loop taken₀ next₀ m set takers w putters posts left₀ p₀ taken next left p = 128 - p
+μ-loop taken₀ put₀ m set takers w putters posts left₀ p₀ taken put left p = 128 - p
 
 first-requires : tie.Need-first-requires Inv-loop μ-loop
 first-requires c κs = search needs
@@ -90,15 +90,18 @@ lost c =
     let weight : ℕ → ℕ = λ t. cell (a .w .now) (c .before .before .before .before .loop .p) t in
     c .at-place .ensures .0 ∙ over-both (a .set) (getD (a .takers .now) (c .before .before .before .before .loop .p) 0) weight
 
+gained : (c : tie.After-at-place2 Inv-loop μ-loop) → c .at-place2 .result ≡ moved-at (c .before .before .before .before .before .before .before .before .before .args .set) (c .before .before .before .before .before .before .before .before .before .args .putters .now) (c .before .before .before .before .before .before .before .before .before .args .posts .now) (c .before .before .before .before .before .before .before .loop .p)
+gained c =
+    let a = c .before .before .before .before .before .before .before .before .before .args in
+    let weight : ℕ → ℕ = λ t. cell (a .posts .now) (c .before .before .before .before .before .before .before .loop .p) t in
+    c .at-place2 .ensures .0 ∙ over-both (a .set) (getD (a .putters .now) (c .before .before .before .before .before .before .before .loop .p) 0) weight
+
 new : (c : tie.After-at-place3 Inv-loop μ-loop)
     → c .at-place3 .result
     ≡ new-at (c .before .before .before .before .before .before .before .before .before .before .before .args .m .now) (c .before .before .before .before .before .before .before .before .before .before .before .args .set) (c .before .before .before .before .before .before .before .before .before .before .before .args .takers .now) (c .before .before .before .before .before .before .before .before .before .before .before .args .w .now) (c .before .before .before .before .before .before .before .before .before .before .before .args .putters .now) (c .before .before .before .before .before .before .before .before .before .before .before .args .posts .now)
     (c .before .before .before .before .before .before .before .before .before .loop .p)
 new c =
-    let a = c .before .before .before .before .before .before .before .before .before .before .before .args in
-    let p = c .before .before .before .before .before .before .before .before .before .loop .p in
-    let weight : ℕ → ℕ = λ t. cell (a .posts .now) p t in
-    c .at-place3 .ensures ∙ rw (lost (c .before .before .before .before .before), c .before .before .at-place2 .ensures .0 ∙ over-both (a .set) (getD (a .putters .now) p 0) weight)
+    c .at-place3 .ensures ∙ rw (lost (c .before .before .before .before .before), gained (c .before .before))
 
 returns : tie.Need-returns Inv-loop μ-loop
 returns c =
@@ -111,7 +114,7 @@ returns c =
     record {
       over-is = over;
       taken-is = λ l. absurd (omega (arith, l, in-loop .loop-test .taken));
-      next-is = λ l. absurd (omega (arith, l, in-loop .loop-test .taken));
+      put-is = λ l. absurd (omega (arith, l, in-loop .loop-test .taken));
       sizes = (at .inv .0, at .inv .1);
     }
 
@@ -121,11 +124,11 @@ mul-taken c = search needs
 element-write-taken : tie.Need-element-write-taken Inv-loop μ-loop
 element-write-taken c = search needs
 
-mul-next : tie.Need-mul-next Inv-loop μ-loop
-mul-next c = search needs
+mul-put : tie.Need-mul-put Inv-loop μ-loop
+mul-put c = search needs
 
-element-write-next : tie.Need-element-write-next Inv-loop μ-loop
-element-write-next c = search needs
+element-write-put : tie.Need-element-write-put Inv-loop μ-loop
+element-write-put c = search needs
 
 rest-requires : tie.Need-rest-requires Inv-loop μ-loop
 rest-requires c κs = search needs
@@ -144,14 +147,14 @@ loop-again c =
     let at = in-loop .before .loop in
     let test = in-loop .loop-test .taken in (
       length-set (at .taken) (at .p) _ ∙ at .inv .0,
-      length-set (at .next) (at .p) _ ∙ at .inv .1,
+      length-set (at .put) (at .p) _ ∙ at .inv .1,
       on 128 _ _ _ (at .inv .2) test _ _ (c .before .rest .ensures) (c .first2 .ensures),
       passed 128 _ _ _ (at .inv .2) test _ _ (c .before .rest .ensures) (c .first2 .ensures) _ (at .inv .3)
           (rw (← new (c .before .before .before)) (le-ltb 65535 _ (c .before .before .if1 .left))),
       one-written 128 _ _ _ (at .inv .2) test _ _ (c .before .rest .ensures) (c .first2 .ensures) _ _ (at .taken) _
           (omega (arith, at .inv .0)) (at .inv .4) (lost (c .before .before .before .before .before .before .before .before)),
-      one-written 128 _ _ _ (at .inv .2) test _ _ (c .before .rest .ensures) (c .first2 .ensures) _ _ (at .next) _
-          (omega (arith, at .inv .1)) (at .inv .5) (new (c .before .before .before)),
+      one-written 128 _ _ _ (at .inv .2) test _ _ (c .before .rest .ensures) (c .first2 .ensures) _ _ (at .put) _
+          (omega (arith, at .inv .1)) (at .inv .5) (gained (c .before .before .before .before .before)),
     )
 
 returns-2 : tie.Need-returns-2 Inv-loop μ-loop
@@ -160,7 +163,7 @@ returns-2 c =
     record {
       over-is = sym (first-none 128 _ (λ p h. at .inv .3 p (omega (arith, c .loop-test .left))));
       taken-is = λ l p h i. all-written 128 _ _ _ _ _ (c .loop-test .left) (at .inv .4) p h ∙ rw i;
-      next-is = λ l p h i. all-written 128 _ _ _ _ _ (c .loop-test .left) (at .inv .5) p h ∙ rw i;
+      put-is = λ l p h i. all-written 128 _ _ _ _ _ (c .loop-test .left) (at .inv .5) p h ∙ rw i;
       sizes = (at .inv .0, at .inv .1);
     }
 
@@ -188,8 +191,8 @@ weigh-spec =
     returns
     mul-taken
     element-write-taken
-    mul-next
-    element-write-next
+    mul-put
+    element-write-put
     rest-requires
     first-requires-2
     loop-less

@@ -1,0 +1,2 @@
+-- What weighing says of the tokens that are put.
+pub mod Little
