@@ -266,7 +266,7 @@ pub fn run(t: &[u8], image: &mut [u8], words: &[u8], report: &mut [u8]) -> Answe
     let mut falses = [0u64; 128];
     let mut index = [0u64; 768];
     let mut above = [0u64; 64];
-    let j = judge(
+    let judged = judge(
         t,
         &mut index,
         &mut above,
@@ -276,10 +276,10 @@ pub fn run(t: &[u8], image: &mut [u8], words: &[u8], report: &mut [u8]) -> Answe
         &mut truths,
         &mut falses,
     );
-    if j.number != 0 {
+    if judged.number != 0 {
         return Answer {
-            number: j.number,
-            at: j.at,
+            number: judged.number,
+            at: judged.at,
             cycles: 0,
         };
     }
