@@ -32,6 +32,7 @@ use Rattle.moves.proofs.Near.{moved-outside}
 use Rattle.fire.specs.Fired.{Ranks, Fires}
 use Rattle.fire.proofs.Carry.{listed, listed-at, well-ranks, fires-is}
 use Rattle.settle.specs.Settle.{new-at, Weighed, Settled}
+use Rattle.settle.proofs.Little.{all-taken, all-put}
 use Rattle.resets.specs.Starved.{reset-by}
 use Rattle.resets.proofs.Carry.{starved-near, starved-same}
 use Rattle.report.proofs.Carry.{bits-of, acting-same, actions-are, functions-are}
@@ -160,8 +161,8 @@ module _ (bs : List ℕ) (known timed : ℕ) (acting : Places) (x : Intervals) (
               let here : new p ≡ marked (table bs) (held h .tokens) (bit f) p = rw (takes f p l, puts f p l) in
               here ∙ ap (λ (F : ℕ → Bool). marked (table bs) (held h .tokens) F p) one-set
 
-          module _ (small : Small h) (over : ℕ) (taken put : List ℕ)
-              (weighed : Weighed at (h .tokens) f takers w putters posts over taken put)
+          module _ (small : Small h) (over : ℕ) (taken₀ put₀ taken put : List ℕ)
+              (weighed : Weighed at (h .tokens) f takers w putters posts over taken₀ put₀ taken put)
               (actions functions : ℕ)
               (actions-is : (k : ℕ) → bit actions k ≡ some 128 (λ p. has acting p && (ltb 0 (getD (h .tokens) p 0) && bit (getD index (576 + p) 0) k)))
               (functions-is : (k : ℕ) → bit functions k ≡ some 64 (λ t. bit f t && bit (getD index (704 + t) 0) k))
@@ -213,7 +214,7 @@ module _ (bs : List ℕ) (known timed : ℕ) (acting : Places) (x : Intervals) (
                     lt-ltb t 64 l,
                     net .timed-is t l,
                     starved-near at (h .tokens) taken all w s (getD low t 0) (getD high t 0) t
-                        (λ p m e. weighed .taken-is full p m e ∙ sym (listed-at 128 (moved-at f takers w) p m))
+                        (λ p m e. all-taken weighed full p m e ∙ sym (listed-at 128 (moved-at f takers w) p m))
                         (λ p m e. listed-at 128 (moved-at f takers w) p m ∙ not-taken p m e),
                     starved-same (table bs) w s index (record { low = low; high = high }) (net .weights) (net .sorts) clean (net .inputs)
                         (arcs bs (net .sound)) (input-once bs (net .sound)) t l (h .tokens) all (bit f)
@@ -227,7 +228,7 @@ module _ (bs : List ℕ) (known timed : ℕ) (acting : Places) (x : Intervals) (
               settles p l = settled .tokens p l ∙ go (has at p) refl
                 where
                   go : (b : Bool) → has at p ≡ b → cond b (getD (h .tokens) p 0 - getD taken p 0 + getD put p 0) (getD (h .tokens) p 0) ≡ new p
-                  go true e = rw (weighed .taken-is full p l e, weighed .put-is full p l e)
+                  go true e = rw (all-taken weighed full p l e, all-put weighed full p l e)
                   go false e = sym (stays p l e)
 
               pub stepped : Stepped (table bs) h word (record { fired = f; actions = actions; functions = functions; over = over; orders = after }) tokens counters

@@ -1,2 +1,2 @@
--- What weighing says of the tokens that are put.
+-- What weighing says where no place is overfull.
 pub mod Little

@@ -14,12 +14,13 @@ use Rattle.moves.specs.Moves.{moved-at}
 abbrev pub new-at : List ℕ → ℕ → List ℕ → List (List ℕ) → List ℕ → List (List ℕ) → ℕ → ℕ
 new-at m set takers w putters posts p = getD m p 0 - moved-at set takers w p + moved-at set putters posts p
 
--- The first of the places that would have more than 65,535 tokens, 128 if there is none; and then what is taken and what is put at each of them.
+-- The first of the places that would have more than 65,535 tokens, 128 if there is none; what is taken and what is put at each of them before it; and
+-- elsewhere what the arrays held.
 pub record Weighed (at : Places) (m : List ℕ) (set : ℕ) (takers : List ℕ) (w : List (List ℕ)) (putters : List ℕ) (posts : List (List ℕ)) (over : ℕ)
-    (taken put : List ℕ) : Type 0 where
+    (taken₀ put₀ taken put : List ℕ) : Type 0 where
   pub over-is : over ≡ first 128 (λ p. has at p && ltb 65535 (new-at m set takers w putters posts p))
-  pub taken-is : 128 ≤ over → (p : ℕ) → p < 128 → has at p ≡ true → getD taken p 0 ≡ moved-at set takers w p
-  pub put-is : 128 ≤ over → (p : ℕ) → p < 128 → has at p ≡ true → getD put p 0 ≡ moved-at set putters posts p
+  pub taken-is : (p : ℕ) → p < 128 → getD taken p 0 ≡ cond (ltb p over && has at p) (moved-at set takers w p) (getD taken₀ p 0)
+  pub put-is : (p : ℕ) → p < 128 → getD put p 0 ≡ cond (ltb p over && has at p) (moved-at set putters posts p) (getD put₀ p 0)
   pub sizes : (length taken ≡ 128) × (length put ≡ 128)
 
 -- r has the new tokens of each of the places, and elsewhere those that were there.

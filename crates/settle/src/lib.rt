@@ -31,7 +31,7 @@ pub fn weigh(
 ) -> usize
     requires { ⌜ (length (now taken) ≡ 128) × (length (now put) ≡ 128) ⌝ }
     requires { ⌜ ((p : ℕ) → p < 128 → getD (now m) p 0 ≤ 65535) ⌝ }
-    ensures { λ r. ⌜ Weighed at (now (m .entry)) set (now (takers .entry)) (now (w .entry)) (now (putters .entry)) (now (posts .entry)) r (now (taken .exit)) (now (put .exit)) ⌝ }
+    ensures { λ r. ⌜ Weighed at (now (m .entry)) set (now (takers .entry)) (now (w .entry)) (now (putters .entry)) (now (posts .entry)) r (now (taken .entry)) (now (put .entry)) (now (taken .exit)) (now (put .exit)) ⌝ }
 {
     let mut left = at;
     let mut p = places::first(left);

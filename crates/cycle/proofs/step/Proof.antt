@@ -54,7 +54,7 @@ returns c =
     let start = m .before .before .before .before .before .before .before .before .before .before .before .before .before .before .before .before in
     bursts _ _ _ _ _ _ _ _ _ _ _ _ _ _ _ _ _ _ (start .pre .0) (record { tokens = start .args .tokens .now; counters = start .args .counters .now; orders = start .args .orders }) _ (m .before .before .before .before .before .before .before .before .before .before .before .before .before .all-enabled .ensures) _
     (m .before .before .before .before .before .before .before .before .before .before .fall .ensures) _ _ (m .before .before .before .before .before .before .before .before .firable .ensures) _ (fired-low (m .before .before .before .before .before .before)) (m .before .before .before .before .before .before .fired .ensures) _ _ _ (m .before .before .touched .ensures) (m .before .touched2 .ensures) (m .union .ensures)
-    (start .pre .1 .0) _ _ _ (c .before .weigh .ensures) _ _ (m .before .before .before .before .actions .ensures) (m .before .before .before .functions .ensures) (actions-low (m .before .before .before .before)) (functions-low (m .before .before .before))
+    (start .pre .1 .0) _ _ _ _ _ (c .before .weigh .ensures) _ _ (m .before .before .before .before .actions .ensures) (m .before .before .before .functions .ensures) (actions-low (m .before .before .before .before)) (functions-low (m .before .before .before))
     (c .if1 .taken) (start .pre .1 .1)
 
 resets-requires : tie.Need-resets-requires
@@ -72,7 +72,7 @@ returns-2 c =
     let start = m .before .before .before .before .before .before .before .before .before .before .before .before .before .before .before .before in
     stepped _ _ _ _ _ _ _ _ _ _ _ _ _ _ _ _ _ _ (start .pre .0) (record { tokens = start .args .tokens .now; counters = start .args .counters .now; orders = start .args .orders }) _ (m .before .before .before .before .before .before .before .before .before .before .before .before .before .all-enabled .ensures) _
     (m .before .before .before .before .before .before .before .before .before .before .fall .ensures) _ _ (m .before .before .before .before .before .before .before .before .firable .ensures) _ (fired-low (m .before .before .before .before .before .before)) (m .before .before .before .before .before .before .fired .ensures) _ _ _ (m .before .before .touched .ensures) (m .before .touched2 .ensures) (m .union .ensures)
-    (start .pre .1 .0) _ _ _ (c .before .before .before .before .before .before .before .before .weigh .ensures) _ _ (m .before .before .before .before .actions .ensures) (m .before .before .before .functions .ensures) (actions-low (m .before .before .before .before)) (functions-low (m .before .before .before))
+    (start .pre .1 .0) _ _ _ _ _ (c .before .before .before .before .before .before .before .before .weigh .ensures) _ _ (m .before .before .before .before .actions .ensures) (m .before .before .before .functions .ensures) (actions-low (m .before .before .before .before)) (functions-low (m .before .before .before))
     (c .before .before .before .before .before .before .before .if1 .left) _ (c .before .before .before .before .resets .ensures) _ (c .settle .ensures)
 
 pub step-spec : {M : Type 1} → statement M

@@ -113,8 +113,8 @@ returns c =
     (and-true (member 128 _ _ _ (at .inv .2) (in-loop .loop-test .taken)) (rw (← new (c .before)) (lt-ltb 65535 _ (c .if1 .taken)))) (at .inv .3)) in
     record {
       over-is = over;
-      taken-is = λ l. absurd (omega (arith, l, in-loop .loop-test .taken));
-      put-is = λ l. absurd (omega (arith, l, in-loop .loop-test .taken));
+      taken-is = at .inv .4 .holds;
+      put-is = at .inv .5 .holds;
       sizes = (at .inv .0, at .inv .1);
     }
 
@@ -162,8 +162,8 @@ returns-2 c =
     let at = c .before .loop in
     record {
       over-is = sym (first-none 128 _ (λ p h. at .inv .3 p (omega (arith, c .loop-test .left))));
-      taken-is = λ l p h i. all-written 128 _ _ _ _ _ (c .loop-test .left) (at .inv .4) p h ∙ rw i;
-      put-is = λ l p h i. all-written 128 _ _ _ _ _ (c .loop-test .left) (at .inv .5) p h ∙ rw i;
+      taken-is = λ p h. all-written 128 _ _ _ _ _ (c .loop-test .left) (at .inv .4) p h ∙ rw (lt-ltb p 128 h);
+      put-is = λ p h. all-written 128 _ _ _ _ _ (c .loop-test .left) (at .inv .5) p h ∙ rw (lt-ltb p 128 h);
       sizes = (at .inv .0, at .inv .1);
     }
 
