@@ -17,7 +17,7 @@ use Rattle.meaning.proofs.Bool.{or-false-right}
 use Rattle.meaning.proofs.Below.{first-none}
 use Rattle.meaning.proofs.Decide.{All, Refuses, accepted-clean}
 use Rattle.timing.specs.declared.Intervals.{Intervals}
-use Rattle.fit.specs.Fit.{wrong-by}
+use Rattle.image.specs.Fit.{wrong-by}
 use Rattle.engine.specs.Said.{lent-checks}
 use Rattle.engine.proofs.Stages.{hands-on, answers}
 

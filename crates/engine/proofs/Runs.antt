@@ -20,8 +20,8 @@ use Rattle.net.specs.Rows.{Gathered}
 use Rattle.moves.specs.Moves.{Posts}
 use Rattle.timing.specs.declared.Intervals.{Intervals}
 use Rattle.timing.specs.Times.{Times-of}
-use Rattle.fit.specs.Fit.{wrong-by}
-use Rattle.fit.proofs.Carry.{first-wrong-same}
+use Rattle.image.specs.Fit.{wrong-by}
+use Rattle.image.proofs.Carry.{first-wrong-same}
 use Rattle.course.specs.Course.{Read, Ready, Ends}
 use Rattle.course.specs.declared.Ended.{Ended}
 use Rattle.engine.specs.declared.Finding.{Finding}

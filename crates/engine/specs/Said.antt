@@ -15,7 +15,7 @@ use Rattle.records.specs.declared.Rec.{Rec}
 use Rattle.table.specs.Index.{Indexed}
 use Rattle.rows.specs.Pass.{Filled}
 use Rattle.timing.specs.declared.Intervals.{Intervals}
-use Rattle.fit.specs.Fit.{wrong-by}
+use Rattle.image.specs.Fit.{wrong-by}
 use Rattle.engine.specs.declared.Answer.{Answer}
 use Rattle.engine.specs.declared.Finding.{Finding}
 

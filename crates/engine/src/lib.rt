@@ -221,7 +221,7 @@ fn judge_lent(
             at: 192,
         };
     }
-    let wrong = fit::first_wrong(image, index, x);
+    let wrong = image::first_wrong(image, index, x);
     if wrong < 192 {
         return Finding {
             number: 10,

@@ -1,3 +1,6 @@
--- The laws of an image's records, read and stored.
+-- The laws of an image's records, read, stored and held to a table.
 pub mod Read
 pub mod Write
+pub mod Blank
+pub mod Firsts
+pub mod Carry

@@ -1,4 +1,5 @@
--- What the arrays of a state hold, what a record spells, and what is stored.
+-- What the arrays of a state hold, what a record spells, what is stored, and when a record does not fit.
 pub mod Held
 pub mod Records
 pub mod Stored
+pub mod Fit

@@ -3,9 +3,9 @@ use mathlib.Core.Bool.{or-true, or-false}
 use mathlib.Core.Path.{sym, _∙_}
 use borrow.Author.Needs.{needs}
 use borrow.Author.Tests.{eq-eqb, ne-eqb, lt-ltb, le-ltb}
-use Rattle.fit.specs.Fit.{most-by, order-by}
-use Rattle.fit.proofs.wrong_transition.Statement.{statement}
-use Rattle.fit.proofs.wrong_transition.Tie as tie
+use Rattle.image.specs.Fit.{most-by, order-by}
+use Rattle.image.proofs.wrong_transition.Statement.{statement}
+use Rattle.image.proofs.wrong_transition.Tie as tie
 
 returns : tie.Need-returns
 returns c = rw (ne-eqb (c .before .args .fourth) 0 (c .if1 .taken), or-true)

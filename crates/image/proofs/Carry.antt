@@ -15,7 +15,7 @@ use Rattle.table.proofs.Carry.{Clean, place-bit}
 use Rattle.timing.specs.declared.Intervals.{Intervals}
 use Rattle.timing.specs.Times.{Times-of}
 use Rattle.timing.proofs.Carry.{sort-is, a-is, b-is}
-use Rattle.fit.specs.Fit.{wrong-place-by, most-by, order-by, wrong-transition-by, wrong-by}
+use Rattle.image.specs.Fit.{wrong-place-by, most-by, order-by, wrong-transition-by, wrong-by}
 
 module _ (tb : Table) (rows : List ℕ) (clean : Clean tb rows) (sound : Sound-table tb) (x : Intervals) (times : Times-of tb x) (bs : List ℕ) where
   place-same : (p : ℕ) → p < 128 → wrong-place-by bs rows p ≡ wrong-place tb (image bs) p

@@ -2,8 +2,8 @@
 use mathlib.Core.Bool.{or-true}
 use borrow.Author.Needs.{needs}
 use borrow.Author.Tests.{eq-eqb, ne-eqb}
-use Rattle.fit.proofs.wrong_place.Statement.{statement}
-use Rattle.fit.proofs.wrong_place.Tie as tie
+use Rattle.image.proofs.wrong_place.Statement.{statement}
+use Rattle.image.proofs.wrong_place.Tie as tie
 
 returns : tie.Need-returns
 returns c = rw (ne-eqb (c .before .args .third) 0 (c .if1 .taken))

@@ -2,10 +2,10 @@
 use native.Mathlib.Omega.{arith}
 use borrow.Author.Needs.{needs}
 use Rattle.meaning.proofs.Below.{first-le}
-use Rattle.fit.specs.Fit.{wrong-transition-by}
-use Rattle.fit.proofs.Firsts.{at-place, at-transition}
-use Rattle.fit.proofs.first_wrong.Statement.{statement}
-use Rattle.fit.proofs.first_wrong.Tie as tie
+use Rattle.image.specs.Fit.{wrong-transition-by}
+use Rattle.image.proofs.Firsts.{at-place, at-transition}
+use Rattle.image.proofs.first_wrong.Statement.{statement}
+use Rattle.image.proofs.first_wrong.Tie as tie
 
 first-place-requires : tie.Need-first-place-requires
 first-place-requires c κs = search needs

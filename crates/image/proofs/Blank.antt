@@ -8,9 +8,9 @@ use lib.ListN.{getD}
 use borrow.Author.Tests.{le-ltb}
 use Rattle.meaning.specs.Image.{image}
 use Rattle.timing.specs.declared.Intervals.{Intervals}
 use Rattle.image.specs.Records.{Quiet}
 use Rattle.image.proofs.Read.{quiet-is}
-use Rattle.fit.specs.Fit.{wrong-place-by, most-by, order-by, wrong-transition-by}
+use Rattle.image.specs.Fit.{wrong-place-by, most-by, order-by, wrong-transition-by}
 
 -- Sixteen places whose bytes are 0.
 pub quiet-places : (bs rows : List ℕ) (p from to : ℕ) → p + 16 ≤ 128 → from ≡ 4 * p → to ≡ from + 64 → Quiet bs from to

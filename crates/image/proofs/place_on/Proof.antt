@@ -6,9 +6,9 @@ use native.Mathlib.Omega.{arith}
 use borrow.Author.Needs.{needs}
 use Rattle.meaning.proofs.Below.{first-is, first-none}
 use Rattle.table.proofs.Firsts.{none-yet, none-more}
-use Rattle.fit.specs.Fit.{wrong-place-by}
-use Rattle.fit.proofs.place_on.Statement.{statement}
-use Rattle.fit.proofs.place_on.Tie as tie
+use Rattle.image.specs.Fit.{wrong-place-by}
+use Rattle.image.proofs.place_on.Statement.{statement}
+use Rattle.image.proofs.place_on.Tie as tie
 
 abbrev Inv-loop : tie.InvT-loop
 Inv-loop image rows p i₀ i = (i ≤ 16) × ((k : ℕ) → k < i → wrong-place-by image rows (p + k) ≡ false)

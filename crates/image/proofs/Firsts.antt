@@ -13,7 +13,7 @@ use Rattle.meaning.proofs.Bool.{either}
 use Rattle.meaning.proofs.Below.{first-le, first-passes, first-before, first-is, first-none, first-same}
 use Rattle.table.proofs.Firsts.{first-after}
 use Rattle.timing.specs.declared.Intervals.{Intervals}
-use Rattle.fit.specs.Fit.{wrong-place-by, wrong-transition-by, wrong-by}
+use Rattle.image.specs.Fit.{wrong-place-by, wrong-transition-by, wrong-by}
 
 -- The first of m + n candidates is the first of the m where one of them passes, and else the first of the n behind them.
 module _ (m n : ℕ) (p : ℕ → Bool) where

@@ -2,9 +2,9 @@
 use mathlib.Core.Path.{_≡_, refl}
 use Prim.Native.Nat.{ℕ, zero, suc}
 use borrow.Author.Needs.{needs}
-use Rattle.fit.specs.Fit.{most-by}
-use Rattle.fit.proofs.most.Statement.{statement}
-use Rattle.fit.proofs.most.Tie as tie
+use Rattle.image.specs.Fit.{most-by}
+use Rattle.image.proofs.most.Statement.{statement}
+use Rattle.image.proofs.most.Tie as tie
 
 -- A sort that is neither 1 nor 2 counts to 0.
 no-interval : (sort a b : ℕ) → ¬ (sort ≡ 1) → ¬ (sort ≡ 2) → 0 ≡ most-by sort a b

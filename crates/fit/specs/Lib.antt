@@ -1,2 +1,0 @@
--- When a record of a state image does not fit.
-pub mod Fit
