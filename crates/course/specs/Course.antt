@@ -14,7 +14,7 @@ use Rattle.meaning.specs.Defined.{check}
 use Rattle.meaning.specs.Image.{image, image-bytes, wrong}
 use Rattle.meaning.specs.Calls.{words-of, trace, Run, ran}
 use Rattle.net.specs.Rows.{Gathered, Weights, Sorts}
-use Rattle.moves.specs.Moves.{Posts}
+use Rattle.net.specs.Rows.{Posts}
 use Rattle.timing.specs.declared.Intervals.{Intervals}
 use Rattle.timing.specs.Times.{Times-of}
 use Rattle.table.specs.Index.{Indexed}

@@ -15,7 +15,7 @@ use Rattle.meaning.specs.Cycle.{falling, fired, rising, active, executed, overf
 use Rattle.places.specs.declared.Places.{Places}
 use Rattle.places.specs.Set.{has}
 use Rattle.net.specs.Rows.{Gathered, Weights, Sorts}
-use Rattle.moves.specs.Moves.{Posts}
+use Rattle.net.specs.Rows.{Posts}
 use Rattle.timing.specs.declared.Intervals.{Intervals}
 use Rattle.timing.specs.Times.{Times-of}
 use Rattle.enabled.specs.Inputs.{Inputs-of, Outputs-of}

@@ -17,7 +17,7 @@ use Rattle.meaning.proofs.Tables.{table-refusing}
 use Rattle.meaning.proofs.Run.{verdict, run-refused-leaves, run-goes-on}
 use Rattle.cycle.proofs.Facts.{sound, fine}
 use Rattle.net.specs.Rows.{Gathered}
-use Rattle.moves.specs.Moves.{Posts}
+use Rattle.net.specs.Rows.{Posts}
 use Rattle.timing.specs.declared.Intervals.{Intervals}
 use Rattle.timing.specs.Times.{Times-of}
 use Rattle.image.specs.Fit.{wrong-by}

@@ -29,7 +29,7 @@ use Rattle.table.specs.declared.Pass.{Pass}
 use Rattle.table.specs.Index.{Scanned, names-unknown-at, none-of, lone}
 use Rattle.table.proofs.Carry.{Clean, clean-of, unknown-same, none-same, lone-same, written-bit}
 use Rattle.net.specs.Rows.{Conflicts}
-use Rattle.rows.specs.Pass.{Filled}
+use Rattle.net.specs.Pass.{Filled}
 use Rattle.net.proofs.Carry.{conflict-bit, complementary-bits, inhibits-same}
 use Rattle.priority.specs.Closed.{Closed}
 use Rattle.priority.proofs.Carry.{above-bit, circle-same}

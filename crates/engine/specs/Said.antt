@@ -13,7 +13,7 @@ use Rattle.meaning.specs.Defined.{check}
 use Rattle.meaning.specs.Calls.{word-checks}
 use Rattle.records.specs.declared.Rec.{Rec}
 use Rattle.table.specs.Index.{Indexed}
-use Rattle.rows.specs.Pass.{Filled}
+use Rattle.net.specs.Pass.{Filled}
 use Rattle.timing.specs.declared.Intervals.{Intervals}
 use Rattle.image.specs.Fit.{wrong-by}
 use Rattle.engine.specs.declared.Answer.{Answer}

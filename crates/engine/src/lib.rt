@@ -10,7 +10,7 @@ ghost use Rattle.meaning.specs.Table.{table};
 ghost use Rattle.meaning.specs.Defined.{bad-length, check};
 ghost use Rattle.meaning.specs.Image.{image-bytes, fresh};
 ghost use Rattle.meaning.specs.Promise.{Checked, Started, Ran, Looked-up};
-ghost use Rattle.rows.specs.Pass.{Blank};
+ghost use Rattle.net.specs.Pass.{Blank};
 ghost use Rattle.engine.specs.Said.{said, Judges, put-of, lent-checks};
 
 // An answer: its number (0 accepted), the page's where, the cycles done.
@@ -53,7 +53,7 @@ fn judge(
             at,
         };
     }
-    let unknown = rows::fill(t, index, w, s, takers, truths, falses);
+    let unknown = net::fill(t, index, w, s, takers, truths, falses);
     if unknown < n {
         return Finding {
             number: 5,
@@ -294,7 +294,7 @@ pub fn run(t: &[u8], image: &mut [u8], words: &[u8], report: &mut [u8]) -> Answe
     }
     let mut posts = [[0u16; 64]; 128];
     let mut putters = [0u64; 128];
-    moves::posts(t, &mut posts, &mut putters);
+    net::posts(t, &mut posts, &mut putters);
     let e = course::course(
         t,
         image,

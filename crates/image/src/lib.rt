@@ -265,12 +265,7 @@ fn place_on(image: &[u8], rows: &[u64; 768], p: usize) -> usize
     while i < 16 {
         let k = p + i;
         let tokens = number(image, k);
-        if wrong_place(
-            tokens,
-            third(image, k),
-            fourth(image, k),
-            rows[k],
-        ) {
+        if wrong_place(tokens, third(image, k), fourth(image, k), rows[k]) {
             return i;
         }
         i += 1;

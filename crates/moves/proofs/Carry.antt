@@ -18,7 +18,8 @@ use Rattle.meaning.proofs.Reflect.{not-true-false}
 use Rattle.meaning.proofs.Sound.{sum-one}
 use Rattle.net.specs.Rows.{Gathered, Weights, latest, cell}
 use Rattle.net.proofs.Carry.{latest-is}
-use Rattle.moves.specs.Moves.{Posts, moved-at}
+use Rattle.net.specs.Rows.{Posts}
+use Rattle.moves.specs.Moves.{moved-at}
 
 -- A sum of sums, taken the other way.
 sum-swap : (m n : ℕ) (h : ℕ → ℕ → ℕ) → sum m (λ t. sum n (λ r. h r t)) ≡ sum n (λ r. sum m (h r))

@@ -1,20 +1,12 @@
 -- The tokens that a set of transitions moves at each place, by the arcs that rows of places name.
 use mathlib.Core.Bool.{Bool, cond, _&&_}
 use mathlib.Core.List.{List}
-use mathlib.Core.Path.{_≡_}
-use Prim.Native.Nat.{ℕ, _<_}
-use lib.Dec.{eqb}
+use Prim.Native.Nat.{ℕ}
 use lib.ListN.{getD}
 use Rattle.meaning.specs.Below.{sum}
 use Rattle.meaning.specs.Bytes.{bit}
-use Rattle.meaning.specs.Table.{Table, post}
 use Rattle.places.specs.Set.{has}
-use Rattle.net.specs.Rows.{latest, cell}
-
--- The weight of the post arc from each transition to each place, 0 where there is none.
-pub record Posts (tb : Table) (w : List (List ℕ)) : Type 0 where
-  pub holds : (p t : ℕ) → p < 128 → t < 64
-      → cell w p t ≡ latest (tb .records) (λ r. post tb r && eqb (tb .one r) p && eqb (tb .two r) t) (tb .four)
+use Rattle.net.specs.Rows.{cell}
 
 -- What the members of `set` move at place p: the weights of those that row p has.
 abbrev pub moved-at : ℕ → List ℕ → List (List ℕ) → ℕ → ℕ

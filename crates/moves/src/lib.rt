@@ -1,53 +1,14 @@
-// What a set of transitions moves at each place: the post arcs' weights, and the tokens that the members of a set move by the arcs of a row.
+// What a set of transitions moves: the tokens at a place, and the places that it touches.
 use places::Places;
-use records::Rec;
 ghost use mathlib.Core.Bool.{cond, _&&_};
 ghost use mathlib.Core.Path.{_≡_};
 ghost use Prim.Native.Nat.{ℕ, _≤_};
 ghost use lib.Dec.{eqb, ltb};
-ghost use lib.ListN.{getD, replicate};
+ghost use lib.ListN.{getD};
 ghost use Rattle.meaning.specs.Below.{some, sum};
 ghost use Rattle.meaning.specs.Bytes.{bit};
-ghost use Rattle.meaning.specs.Table.{table};
 ghost use Rattle.places.specs.Set.{has};
-ghost use Rattle.net.specs.Rows.{Gathered};
-ghost use Rattle.moves.specs.Moves.{Posts, at-words};
-
-// Is x a post arc, from a transition below 64 to a place below 128?
-fn post(x: Rec) -> bool
-    ensures { λ b. ⌜ b ≡ (eqb (x .kind) 3 && eqb (x .sort) 3 && ltb (x .one) 128 && ltb (x .two) 64) ⌝ }
-{
-    if x.kind == 3 {
-        if x.sort == 3 {
-            if x.one < 128 { x.two < 64 } else { false }
-        } else {
-            false
-        }
-    } else {
-        false
-    }
-}
-
-// One pass over the records fills the rows that are lent empty: the weight of the post arc from each transition to each place, and who puts
-// to each place.
-pub fn posts(t: &[u8], w: &mut [[u16; 64]; 128], putters: &mut [u64; 128])
-    requires { ⌜ now w ≡ replicate 128 (replicate 64 0) ⌝ }
-    requires { ⌜ now putters ≡ replicate 128 0 ⌝ }
-    ensures { λ _. ⌜ Posts (table (now (t .entry))) (now (w .exit)) × Gathered (table (now (t .entry))) 3 3 (now (putters .exit)) ⌝ }
-{
-    let n = t.len() / 8;
-    let mut r = 0;
-    while r < n {
-        let x = records::read(t, r);
-        let one = records::wide(x.one);
-        let two = records::wide(x.two);
-        if post(x) {
-            w[one][two] = x.four;
-        }
-        net::name(putters, x, 3, 3);
-        r += 1;
-    }
-}
+ghost use Rattle.moves.specs.Moves.{at-words};
 
 // A weight as a number of tokens.
 fn wide(x: u16) -> u32

@@ -1,4 +1,5 @@
 -- What the proofs of the functions share, and the laws that carry the rows to the meaning.
 pub mod Step
 pub mod Tests
+pub mod Turned
 pub mod Carry

@@ -1,3 +1,4 @@
 -- What the rows of a net hold, and what they hold after a part of the records.
 pub mod Rows
 pub mod Grow
+pub mod Pass

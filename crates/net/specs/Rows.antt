@@ -7,7 +7,7 @@ use lib.Dec.{ltb, eqb}
 use lib.ListN.{length, getD}
 use Rattle.meaning.specs.Below.{some}
 use Rattle.meaning.specs.Bytes.{bit}
-use Rattle.meaning.specs.Table.{Table, is}
+use Rattle.meaning.specs.Table.{Table, is, post}
 
 -- Bit y of row x: some record of the kind and sort has byte 1 at x and byte 2 at y.
 pub record Gathered (tb : Table) (kind sort : ℕ) (rows : List ℕ) : Type 0 where
@@ -35,6 +35,11 @@ input tb p t r = is tb 3 r && ltb (tb .sort r) 3 && eqb (tb .one r) p && eqb (tb
 -- What stands at place p and transition t of an array of rows.
 abbrev pub cell : List (List ℕ) → ℕ → ℕ → ℕ
 cell m p t = getD (getD m p []) t 0
+
+-- The weight of the post arc from each transition to each place, 0 where there is none.
+pub record Posts (tb : Table) (w : List (List ℕ)) : Type 0 where
+  pub holds : (p t : ℕ) → p < 128 → t < 64
+      → cell w p t ≡ latest (tb .records) (λ r. post tb r && eqb (tb .one r) p && eqb (tb .two r) t) (tb .four)
 
 pub record Weights (tb : Table) (w : List (List ℕ)) : Type 0 where
   pub holds : (p t : ℕ) → p < 128 → t < 64 → cell w p t ≡ latest (tb .records) (input tb p t) (tb .four)

@@ -1,14 +1,15 @@
-// A table read into rows: who takes from a place, who wants a condition, who is in conflict; the input arcs' weights and sorts, place by
-// transition.
+// A table read into rows: who takes from a place and who puts to it, who wants a condition, who is in conflict; the arcs' weights and the input arcs'
+// sorts, place by transition.
 use records::Rec;
 ghost use mathlib.Core.Bool.{not, _&&_};
 ghost use mathlib.Core.Path.{_≡_};
 ghost use lib.Dec.{eqb, ltb};
 ghost use lib.ListN.{length, replicate};
 ghost use Prim.Native.Nat.{ℕ, _+_};
-ghost use Rattle.meaning.specs.Table.{Table};
+ghost use Rattle.meaning.specs.Table.{Table, table};
 ghost use Rattle.records.specs.Record.{Reads};
-ghost use Rattle.net.specs.Rows.{Shared, Conflicts, inhibits-by};
+ghost use Rattle.net.specs.Rows.{Gathered, Posts, Shared, Conflicts, inhibits-by};
+ghost use Rattle.net.specs.Pass.{Blank, Passes};
 ghost use Rattle.net.specs.Grow.{names, Grown, Kept};
 
 // Is x of this kind and sort, with byte 1 below 128?
@@ -38,7 +39,7 @@ fn input(x: Rec) -> bool
 }
 
 // A record of this kind and sort adds its byte 2 to the row of its byte 1.
-pub fn name(rows: &mut [u64; 128], x: Rec, kind: u8, sort: u8)
+fn name(rows: &mut [u64; 128], x: Rec, kind: u8, sort: u8)
     ensures { λ _. ⌜ ((tb : Table) (r : ℕ) → Reads tb r x → Grown 128 r (names tb kind sort) (now (rows .entry)) → Grown 128 (r + 1) (names tb kind sort) (now (rows .exit))) ⌝ }
 {
     let one = records::wide(x.one);
@@ -48,7 +49,7 @@ pub fn name(rows: &mut [u64; 128], x: Rec, kind: u8, sort: u8)
 }
 
 // An input arc leaves its weight and its sort at its place and transition.
-pub fn keep(w: &mut [[u16; 64]; 128], s: &mut [[u8; 64]; 128], x: Rec)
+fn keep(w: &mut [[u16; 64]; 128], s: &mut [[u8; 64]; 128], x: Rec)
     ensures { λ _. ⌜ ((tb : Table) (r : ℕ) → Reads tb r x → Kept tb (tb .four) r (now (w .entry)) → Kept tb (tb .sort) r (now (s .entry)) → Kept tb (tb .four) (r + 1) (now (w .exit)) × Kept tb (tb .sort) (r + 1) (now (s .exit))) ⌝ }
 {
     let one = records::wide(x.one);
@@ -122,4 +123,70 @@ pub fn inhibits(w: &[[u16; 64]; 128], s: &[[u8; 64]; 128], i: usize, j: usize) -
         p += 1;
     }
     false
+}
+
+// The first record that names an unknown, or the number of records. Each record before it is kept in the rows, which are lent empty: the input
+// arcs' weights and sorts, place by transition; who takes from each place; which conditions each transition wants true, and which false.
+pub fn fill(
+    t: &[u8],
+    index: &[u64; 768],
+    w: &mut [[u16; 64]; 128],
+    s: &mut [[u8; 64]; 128],
+    takers: &mut [u64; 128],
+    truths: &mut [u64; 128],
+    falses: &mut [u64; 128],
+) -> usize
+    requires { ⌜ Blank (now w) (now s) (now takers) (now truths) (now falses) ⌝ }
+    ensures { λ r. ⌜ Passes (table (now (t .entry))) (now (index .entry)) r (now (w .exit)) (now (s .exit)) (now (takers .exit)) (now (truths .exit)) (now (falses .exit)) ⌝ }
+{
+    let n = t.len() / 8;
+    let mut r = 0;
+    while r < n {
+        let x = records::read(t, r);
+        if table::unknown(x, index) {
+            return r;
+        }
+        keep(w, s, x);
+        name(takers, x, 3, 0);
+        name(truths, x, 4, 0);
+        name(falses, x, 4, 1);
+        r += 1;
+    }
+    n
+}
+
+// Is x a post arc, from a transition below 64 to a place below 128?
+fn post(x: Rec) -> bool
+    ensures { λ b. ⌜ b ≡ (eqb (x .kind) 3 && eqb (x .sort) 3 && ltb (x .one) 128 && ltb (x .two) 64) ⌝ }
+{
+    if x.kind == 3 {
+        if x.sort == 3 {
+            if x.one < 128 { x.two < 64 } else { false }
+        } else {
+            false
+        }
+    } else {
+        false
+    }
+}
+
+// One pass over the records fills the rows that are lent empty: the weight of the post arc from each transition to each place, and who puts
+// to each place.
+pub fn posts(t: &[u8], w: &mut [[u16; 64]; 128], putters: &mut [u64; 128])
+    requires { ⌜ now w ≡ replicate 128 (replicate 64 0) ⌝ }
+    requires { ⌜ now putters ≡ replicate 128 0 ⌝ }
+    ensures { λ _. ⌜ Posts (table (now (t .entry))) (now (w .exit)) × Gathered (table (now (t .entry))) 3 3 (now (putters .exit)) ⌝ }
+{
+    let n = t.len() / 8;
+    let mut r = 0;
+    while r < n {
+        let x = records::read(t, r);
+        let one = records::wide(x.one);
+        let two = records::wide(x.two);
+        if post(x) {
+            w[one][two] = x.four;
+        }
+        name(putters, x, 3, 3);
+        r += 1;
+    }
 }

@@ -7,12 +7,12 @@ use Prim.Native.Nat.{ℕ, _-_, _≤_, _<_}
 use native.Mathlib.Omega.{arith}
 use borrow.Author.Needs.{needs}
 use Rattle.meaning.specs.Table.{Table, table, post}
 use Rattle.net.specs.Grow.{names, Grown, Kept}
 use Rattle.net.proofs.Step.{kept-none, kept-same, kept-more, grown-none}
 use Rattle.net.proofs.Tests.{all-read}
-use Rattle.moves.proofs.Step.{turned, turned-says, posts-kept, post-says, post-low}
-use Rattle.moves.proofs.posts.Statement.{statement}
-use Rattle.moves.proofs.posts.Tie as tie
+use Rattle.net.proofs.Turned.{turned, turned-says, posts-kept, post-says, post-low}
+use Rattle.net.proofs.posts.Statement.{statement}
+use Rattle.net.proofs.posts.Tie as tie
 
 abbrev Inv-loop : tie.InvT-loop
 Inv-loop t w₀ putters₀ n r₀ w putters r = (r ≤ n) × Kept (turned (table t)) (table t .four) r w × Grown 128 r (names (table t) 3 3) putters

@@ -2,7 +2,7 @@
 -- record by its own step.
 use mathlib.Core.Bool.{false}
 use mathlib.Core.List.{List}
-use mathlib.Core.Path.{_≡_, refl, sym, _∙_}
+use mathlib.Core.Path.{_≡_, refl, sym, subst, _∙_}
 use Prim.Native.Nat.{ℕ, _-_, _≤_, _<_}
 use native.Mathlib.Omega.{arith}
 use borrow.Author.Needs.{needs}
@@ -10,11 +10,11 @@ use Rattle.meaning.specs.Table.{Table, table}
 use Rattle.meaning.proofs.Below.{first-is, first-none}
 use Rattle.table.specs.Index.{names-unknown-at}
 use Rattle.table.proofs.Firsts.{none-yet, none-more, named-at}
 use Rattle.net.specs.Grow.{names, Grown, Kept}
 use Rattle.net.proofs.Step.{kept-none, grown-none}
 use Rattle.net.proofs.Tests.{all-read}
-use Rattle.rows.proofs.fill.Statement.{statement}
-use Rattle.rows.proofs.fill.Tie as tie
+use Rattle.net.proofs.fill.Statement.{statement}
+use Rattle.net.proofs.fill.Tie as tie
 
 -- The first r of n records are kept, and none of them names an unknown.
 record Part (tb : Table) (index : List ℕ) (n r : ℕ) (w s : List (List ℕ)) (takers truths falses : List ℕ) : Type 0 where
@@ -67,6 +67,11 @@ returns c =
     let here : at .r < tb .records = omega (arith, at .inv .count) in
     record {
       unknown = sym (first-is (tb .records) _ (at .r) here (sym (tested (c .before)) ∙ c .if1 .taken) (at .inv .known));
+      weights = at .inv .weights;
+      sorts = at .inv .sorts;
+      taking = at .inv .taking;
+      wanting = at .inv .wanting;
+      shunning = at .inv .shunning;
       filled = λ h. let none : ⊥ = omega arith in absurd none;
     }
 
@@ -112,9 +117,16 @@ loop-again c =
 returns-2 : tie.Need-returns-2 Inv-loop μ-loop
 returns-2 c =
     let part = c .before .loop .inv in
+    let tb : Table = table (c .before .before .before .args .t .now) in
     let done = all-read (c .before .before .before .args .t .now) (c .before .loop .r) (part .inside) (c .loop-test .left) in
+    let all = done ∙ sym (part .count) in
     record {
       unknown = part .count ∙ sym (first-none _ _ (λ k h. part .known k (omega arith)));
+      weights = subst (λ (k : ℕ). Kept tb (tb .four) k (c .before .loop .w)) all (part .weights);
+      sorts = subst (λ (k : ℕ). Kept tb (tb .sort) k (c .before .loop .s)) all (part .sorts);
+      taking = subst (λ (k : ℕ). Grown 128 k (names tb 3 0) (c .before .loop .takers)) all (part .taking);
+      wanting = subst (λ (k : ℕ). Grown 128 k (names tb 4 0) (c .before .loop .truths)) all (part .wanting);
+      shunning = subst (λ (k : ℕ). Grown 128 k (names tb 4 1) (c .before .loop .falses)) all (part .shunning);
       filled = λ h.
           record {
             weights = record { holds = λ p t hp ht. rw (← done) (part .weights .holds p t hp ht) };

@@ -1,7 +1,7 @@
 -- `post` answers its question: each test on the way is one of the four that its contract joins.
 use borrow.Author.Tests.{eq-eqb, ne-eqb, lt-ltb, le-ltb}
-use Rattle.moves.proofs.post.Statement.{statement}
-use Rattle.moves.proofs.post.Tie as tie
+use Rattle.net.proofs.post.Statement.{statement}
+use Rattle.net.proofs.post.Tie as tie
 
 returns : tie.Need-returns
 returns c =

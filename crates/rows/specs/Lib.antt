@@ -1,2 +1,0 @@
--- What the pass over the records leaves.
-pub mod Pass
