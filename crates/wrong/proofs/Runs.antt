@@ -15,7 +15,7 @@ use Rattle.meaning.specs.Image.{state, join, image, image-bytes, fresh, wrong-p
 use Rattle.meaning.specs.Cycle.{stops, enabled, active, risen, counted, falling, as-wanted, in-time, firable, withdrawn, added, residual, rule, rounds, fired, marked, executed, starved, reset, rising, record-of, cycle, overfull}
 use Rattle.meaning.specs.Calls.{words-of, word-checks, run-checks, trace, Run, run}
 use Rattle.meaning.specs.Promise.{Ran}
-use Rattle.meaning.specs.Nets.{N-unsettled, N, net7, net9, put-back, two-full}
+use Rattle.meaning.specs.Nets.{N-unsettled, N, net6, net7, net9, put-back, two-full}
 use Rattle.meaning.specs.Nets as net
 
 -- THE INPUTS
@@ -52,8 +52,9 @@ leaves : (getD (run net7-ranked (begun net7-ranked) (quiet 1) (sevens 24) .repor
     × (getD (run net9-timed (begun net9-timed) (quiet 1) (sevens 24) .image) 516 0 ≡ 0)
     × (run two-full (begun two-full) (quiet 1) (sevens 24) .answer .at ≡ 0)
     × (run net9-taken (begun net9-taken) (quiet 1) (sevens 24) .answer .number ≡ 0)
-unfolding some every sum first members within number bytes bit bits cut kinds place transition total ceiling table decide through above bad-length bad-kind interval bad-field same twice fault faulty names-place names-transition names-second unknown empty arc-at-place arc-at-transition isolated circle some-two conflict complementary inhibited settled unsettled clashes table-checks state join image image-bytes fresh wrong-place most most-order wrong-transition wrong state-checks stops enabled active risen counted falling as-wanted in-time firable withdrawn added residual rule rounds fired marked executed starved reset rising record-of cycle overfull words-of word-checks run-checks trace run N N-unsettled net7 net9 put-back two-full
-leaves = (refl, refl, refl, refl, refl, refl, refl, refl, refl, refl)
+    × (getD (run (net6 1) (begun (net6 1)) (quiet 2) (sevens 48) .report) 24 0 ≡ 1)
+unfolding some every sum first members within number bytes bit bits cut kinds place transition total ceiling table decide through above bad-length bad-kind interval bad-field same twice fault faulty names-place names-transition names-second unknown empty arc-at-place arc-at-transition isolated circle some-two conflict complementary inhibited settled unsettled clashes table-checks state join image image-bytes fresh wrong-place most most-order wrong-transition wrong state-checks stops enabled active risen counted falling as-wanted in-time firable withdrawn added residual rule rounds fired marked executed starved reset rising record-of cycle overfull words-of word-checks run-checks trace run N N-unsettled net6 net7 net9 put-back two-full
+leaves = (refl, refl, refl, refl, refl, refl, refl, refl, refl, refl, refl)
 
 -- Byte i of the report, and of the image, that the statement allows.
 report-byte : {bs img ws report img′ report′ : List ℕ} {a : Answer} (i : ℕ) → Ran bs img ws report a img′ report′
@@ -106,3 +107,7 @@ module _ (a : Answer) (img report : List ℕ) where
   -- Judges 13 before the withdrawals.
   pub full-before-withdrawals : a .number ≡ 13 → ¬ Ran net9-taken (begun net9-taken) (quiet 1) (sevens 24) a img report
   full-before-withdrawals e r = omega (arith, e, ap (λ (b : Answer). b .number) (r .answer-is), leaves .9)
+
+  -- Judges a reset by the new marking: t0 takes the token of net 6 and puts it back, so t1 is never reset, and fires in cycle 2.
+  pub reset-by-new-marking : getD report 24 0 ≡ 3 → ¬ Ran (net6 1) (begun (net6 1)) (quiet 2) (sevens 48) a img report
+  reset-by-new-marking e r = omega (arith, e, report-byte 24 r, leaves .10)
