@@ -9,6 +9,7 @@ use Rattle.meaning.specs.Bytes.{bit}
 use Rattle.meaning.specs.Table.{table}
 use Rattle.places.specs.declared.Places.{Places}
 use Rattle.places.specs.Set.{has}
+use Rattle.net.specs.Rows.{Gathered, Posts}
 use Rattle.timing.specs.declared.Intervals.{Intervals}
 use Rattle.timing.proofs.Carry.{sort-is}
 use Rattle.table.proofs.Carry.{transition-bit}
@@ -19,15 +20,16 @@ use Rattle.cycle.specs.Step.{Net-of}
 use Rattle.cycle.proofs.Facts.{sound, fine}
 use Rattle.course.specs.Course.{Read}
 
-module _ {bs : List ℕ} {x : Intervals} {index above : List ℕ} {w s posts : List (List ℕ)} {takers putters truths falses : List ℕ}
-    (read : Read bs x index above w s posts takers putters truths falses) where
+module _ {bs : List ℕ} {x : Intervals} {index above : List ℕ} {w s : List (List ℕ)} {takers truths falses : List ℕ}
+    (read : Read bs x index above w s takers truths falses) where
   pub net-of : (known : ℕ) → ((t : ℕ) → t < 64 → bit known t ≡ bit (getD index (128 + t) 0) 0)
       → (timed : ℕ) → ((t : ℕ) → t < 64 → bit timed t ≡ not (eqb (getD (x .sorts) t 0) 0))
       → (higher : List ℕ) → ((t u : ℕ) → t < 64 → u < 64 → bit (getD higher t 0) u ≡ bit (getD above u 0) t)
+      → (posts : List (List ℕ)) → Posts (table bs) posts → (putters : List ℕ) → Gathered (table bs) 3 3 putters
       → (inputs : Inputs) → Inputs-of index inputs → (outputs : Outputs) → Outputs-of index outputs
       → (acting : Places) → ((p : ℕ) → p < 128 → has acting p ≡ not (eqb (getD index (576 + p) 0) 0))
       → Net-of bs known timed acting x index higher w s posts takers putters (inputs .low) (inputs .high) (outputs .low) (outputs .high) truths falses
-  net-of known known-is timed timed-is higher higher-is inputs inputs-hold outputs outputs-hold acting acting-is =
+  net-of known known-is timed timed-is higher higher-is posts posts-hold putters putters-hold inputs inputs-hold outputs outputs-hold acting acting-is =
       record {
         sound = read .sound;
         index-holds = read .index-holds;
@@ -37,9 +39,9 @@ module _ {bs : List ℕ} {x : Intervals} {index above : List ℕ} {w s posts : L
         higher-is = λ t u h l. higher-is t u h l ∙ read .higher-is u t l h;
         weights = read .weights;
         sorts = read .sorts;
-        posts-hold = read .posts-hold;
+        posts-hold = posts-hold;
         takers-hold = read .takers-hold;
-        putters-hold = read .putters-hold;
+        putters-hold = putters-hold;
         inputs = inputs-hold;
         outputs = outputs-hold;
         acting-is = acting-is;

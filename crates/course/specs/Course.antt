@@ -14,7 +14,6 @@ use Rattle.meaning.specs.Defined.{check}
 use Rattle.meaning.specs.Image.{image, image-bytes, wrong}
 use Rattle.meaning.specs.Calls.{words-of, trace, Run, ran}
 use Rattle.net.specs.Rows.{Gathered, Weights, Sorts}
-use Rattle.net.specs.Rows.{Posts}
 use Rattle.timing.specs.declared.Intervals.{Intervals}
 use Rattle.timing.specs.Times.{Times-of}
 use Rattle.table.specs.Index.{Indexed}
@@ -23,17 +22,15 @@ use Rattle.course.specs.declared.Halted.{Halted}
 use Rattle.course.specs.declared.Ended.{Ended}
 
 -- The bytes spell an accepted table, and the rows are its own.
-pub record Read (bs : List ℕ) (x : Intervals) (index higher : List ℕ) (w s posts : List (List ℕ))
-    (takers putters truths falses : List ℕ) : Type 0 where
+pub record Read (bs : List ℕ) (x : Intervals) (index higher : List ℕ) (w s : List (List ℕ))
+    (takers truths falses : List ℕ) : Type 0 where
   pub sound : check bs ≡ accepted 0
   pub index-holds : Indexed (table bs) (table bs .records) index
   pub times : Times-of (table bs) x
   pub higher-is : (u t : ℕ) → u < 64 → t < 64 → bit (getD higher u 0) t ≡ above (table bs) u t
   pub weights : Weights (table bs) w
   pub sorts : Sorts (table bs) s
-  pub posts-hold : Posts (table bs) posts
   pub takers-hold : Gathered (table bs) 3 0 takers
-  pub putters-hold : Gathered (table bs) 3 3 putters
   pub truths-hold : Gathered (table bs) 4 0 truths
   pub falses-hold : Gathered (table bs) 4 1 falses
 

@@ -143,13 +143,11 @@ pub fn course(
     above: &[u64; 64],
     w: &[[u16; 64]; 128],
     s: &[[u8; 64]; 128],
-    posts: &[[u16; 64]; 128],
     takers: &[u64; 128],
-    putters: &[u64; 128],
     truths: &[u64; 128],
     falses: &[u64; 128],
 ) -> Ended
-    requires { ⌜ Read (now t) x (now index) (now above) (now w) (now s) (now posts) (now takers) (now putters) (now truths) (now falses) ⌝ }
+    requires { ⌜ Read (now t) x (now index) (now above) (now w) (now s) (now takers) (now truths) (now falses) ⌝ }
     requires { ⌜ Ready (now t) (now image) (now words) (now report) ⌝ }
     ensures { λ e. ⌜ Ends (now (t .entry)) (now (image .entry)) (now (words .entry)) (now (report .entry)) e (now (image .exit)) (now (report .exit)) ⌝ }
 {
@@ -160,6 +158,9 @@ pub fn course(
             cycles: 0,
         };
     }
+    let mut posts = [[0u16; 64]; 128];
+    let mut putters = [0u64; 128];
+    net::posts(t, &mut posts, &mut putters);
     let higher = priority::turn(above);
     let inputs = enabled::inputs_of(index);
     let low = inputs.low;
@@ -188,9 +189,9 @@ pub fn course(
         &higher,
         w,
         s,
-        posts,
+        &posts,
         takers,
-        putters,
+        &putters,
         &low,
         &high,
         &outlow,

@@ -17,7 +17,6 @@ use Rattle.meaning.proofs.Tables.{table-refusing}
 use Rattle.meaning.proofs.Run.{verdict, run-refused-leaves, run-goes-on}
 use Rattle.cycle.proofs.Facts.{sound, fine}
 use Rattle.net.specs.Rows.{Gathered}
-use Rattle.net.specs.Rows.{Posts}
 use Rattle.timing.specs.declared.Intervals.{Intervals}
 use Rattle.timing.specs.Times.{Times-of}
 use Rattle.image.specs.Fit.{wrong-by}
@@ -36,8 +35,8 @@ module _ (bs : List ℕ) (j : Finding) (index higher : List ℕ) (w s : List (Li
   table-fine : check bs ≡ accepted 0
   table-fine = accepted-if bs (ap (λ (a : Answer). a .number) (sym (judged .answer)) ∙ zero-is)
 
-  pub read : (posts : List (List ℕ)) (putters : List ℕ) → Posts (table bs) posts → Gathered (table bs) 3 3 putters → Read bs x index higher w s posts takers putters truths falses
-  read posts putters posts-hold putters-hold =
+  pub read : Read bs x index higher w s takers truths falses
+  read =
       let filled = judged .filled zero-is in
       record {
         sound = table-fine;
@@ -46,9 +45,7 @@ module _ (bs : List ℕ) (j : Finding) (index higher : List ℕ) (w s : List (Li
         higher-is = judged .higher-is zero-is;
         weights = filled .weights;
         sorts = filled .sorts;
-        posts-hold = posts-hold;
         takers-hold = filled .takers-hold;
-        putters-hold = putters-hold;
         truths-hold = filled .truths-hold;
         falses-hold = filled .falses-hold;
       }

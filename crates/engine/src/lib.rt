@@ -292,9 +292,6 @@ pub fn run(t: &[u8], image: &mut [u8], words: &[u8], report: &mut [u8]) -> Answe
             cycles: 0,
         };
     }
-    let mut posts = [[0u16; 64]; 128];
-    let mut putters = [0u64; 128];
-    net::posts(t, &mut posts, &mut putters);
     let e = course::course(
         t,
         image,
@@ -305,9 +302,7 @@ pub fn run(t: &[u8], image: &mut [u8], words: &[u8], report: &mut [u8]) -> Answe
         &above,
         &w,
         &s,
-        &posts,
         &takers,
-        &putters,
         &truths,
         &falses,
     );

@@ -42,18 +42,13 @@ returns-4 c =
     let judged = timed .before .before .before in
     refused-by-lent _ _ _ _ _ _ _ _ _ _ _ _ (judged .judge .ensures) (timed .before .if3 .left) _ (timed .times .ensures) (lent .judge-lent .ensures) (c .if4 .taken)
 
-posts-requires : tie.Need-posts-requires
-posts-requires c κs = search needs
-
 course-requires : tie.Need-course-requires
 course-requires c κs =
-    let put = c .before .before .before .before .before .before .before .before .before .before .before in
-    let lent = put .before .before .before .before .before in
+    let lent = c .before .before .before .before .before .before .before .before .before .before .before in
     let timed = lent .before .before .before .before in
     let judged = timed .before .before .before in
-    let none = ap (λ (a : Answer). a .number) (sym (lent .judge-lent .ensures)) ∙ put .before .before .before .if4 .left in (
-      read _ _ _ _ _ _ _ _ _ (judged .judge .ensures) (timed .before .if3 .left) _ (timed .times .ensures) _ _ (put .posts2 .ensures .0)
-          (put .posts2 .ensures .1),
+    let none = ap (λ (a : Answer). a .number) (sym (lent .judge-lent .ensures)) ∙ c .before .before .before .before .before .before .before .before .before .if4 .left in (
+      read _ _ _ _ _ _ _ _ _ (judged .judge .ensures) (timed .before .if3 .left) _ (timed .times .ensures),
       ready _ _ _ _ _ _ _ _ _ _ _ _ (judged .judge .ensures) (timed .before .if3 .left) _ (timed .times .ensures) none,
     )
 
@@ -66,11 +61,10 @@ same-length-4 c = search needs
 returns-5 : tie.Need-returns-5
 returns-5 c =
     let done = c .before .before .before .before in
-    let put = done .before .before .before .before .before .before .before .before .before .before .before .before in
-    let lent = put .before .before .before .before .before in
+    let lent = done .before .before .before .before .before .before .before .before .before .before .before .before in
     let timed = lent .before .before .before .before in
     let judged = timed .before .before .before in
-    let none = ap (λ (a : Answer). a .number) (sym (lent .judge-lent .ensures)) ∙ put .before .before .before .if4 .left in
+    let none = ap (λ (a : Answer). a .number) (sym (lent .judge-lent .ensures)) ∙ done .before .before .before .before .before .before .before .before .before .before .if4 .left in
     ran-through _ _ _ _ _ _ _ _ _ _ _ _ (judged .judge .ensures) (timed .before .if3 .left) _ (timed .times .ensures) none _ _ _ (done .course .ensures)
 
 pub run-spec : {M : Type 1} → statement M
@@ -86,7 +80,6 @@ run-spec =
     same-length
     same-length-2
     returns-4
-    posts-requires
     course-requires
     same-length-3
     same-length-4
