@@ -177,7 +177,7 @@ module _ (bs : List ℕ) (known timed : ℕ) (acting : Places) (x : Intervals) (
                 go p l false e = sym (rw (stays p l e) (le-ltb 65535 (getD (h .tokens) p 0) (small .tokens p l)))
 
             -- What the cycle says, whatever it leaves.
-            pub says : (orders : ℕ) (tokens after : List ℕ) (kept : over < 128 → (tokens ≡ h .tokens) × (after ≡ h .counters))
+            pub says : (orders : ℕ) (tokens after : List ℕ) (kept : over < 128 → (tokens ≡ h .tokens) × (after ≡ h .counters) × (orders ≡ h .orders))
                 → (128 ≤ over → Holds (record { tokens = tokens; counters = after; orders = orders })
                 (rising (table bs) (falling (table bs) (held h)) (within (fired (table bs) (falling (table bs) (held h)) word))))
                 → Sized tokens after
@@ -200,7 +200,7 @@ module _ (bs : List ℕ) (known timed : ℕ) (acting : Places) (x : Intervals) (
             -- A place would be overfull, and all stays.
             pub bursts : over < 128 → Sized (h .tokens) (h .counters)
                 → Stepped (table bs) h word (record { fired = f; actions = actions; functions = functions; over = over; orders = h .orders }) (h .tokens) (h .counters)
-            bursts l sized = says (h .orders) (h .tokens) (h .counters) (λ b. (refl, refl)) (λ b. absurd (omega (arith, b, l))) sized
+            bursts l sized = says (h .orders) (h .tokens) (h .counters) (λ b. (refl, refl, refl)) (λ b. absurd (omega (arith, b, l))) sized
 
             module _ (full : 128 ≤ over) (after : ℕ)
                 (after-is : (t : ℕ) → bit after t ≡ (ltb t 64 && reset-by at timed f (h .tokens) taken w s low high t)) (tokens : List ℕ)

@@ -56,7 +56,7 @@ pub record Stepped (tb : Table) (h : Held) (word : ℕ) (r : Outcome) (tokens co
   pub actions-are : r .actions ≡ bits (active tb (held h .tokens))
   pub functions-are : r .functions ≡ bits (executed tb (within (fired tb (falling tb (held h)) word)))
   pub over-is : r .over ≡ first 128 (overfull tb (rising tb (falling tb (held h)) (within (fired tb (falling tb (held h)) word))))
-  pub kept : r .over < 128 → (tokens ≡ h .tokens) × (counters ≡ h .counters)
+  pub kept : r .over < 128 → (tokens ≡ h .tokens) × (counters ≡ h .counters) × (r .orders ≡ h .orders)
   pub next-holds : 128 ≤ r .over
       → Holds (record { tokens = tokens; counters = counters; orders = r .orders })
       (rising tb (falling tb (held h)) (within (fired tb (falling tb (held h)) word)))

@@ -1,43 +1,21 @@
--- A walk over the members of a word, the lowest first: each turn takes one out, so that the word falls, and what is still to come is what the word has.
+-- A walk over the members of a word, the lowest first: what is still to come is what the word has.
 use mathlib.Core.Bool.{Bool, true, false, not, _&&_, _||_, and-true, and-false, or-false}
 use mathlib.Core.List.{List}
-use mathlib.Core.Path.{_≡_, refl, sym, ap, _∙_}
-use Prim.Native.Nat.{ℕ, _+_, _-_, _^_, _<_}
+use mathlib.Core.Path.{_≡_, refl, sym, _∙_}
+use Prim.Native.Nat.{ℕ, _+_, _^_, _<_}
 use native.Mathlib.Omega.{arith}
 use lib.Dec.{eqb, ltb}
-use lib.ListN.{length, getD, set, replicate, getD-replicate}
-use lib.Pow.{pow-pos}
-use lib.Seq.{getD-set-same, getD-set-other}
-use borrow.Author.Tests.{eqb-true, eqb-false, eq-eqb, ne-eqb, lt-ltb, le-ltb, ltb-true, ltb-false, not-false}
+use lib.ListN.{getD, replicate, getD-replicate}
+use borrow.Author.Tests.{eqb-true, eq-eqb, lt-ltb, le-ltb, ltb-false}
 use Rattle.meaning.specs.Below.{some, first}
 use Rattle.meaning.specs.Bytes.{bit}
-use Rattle.meaning.proofs.Bool.{not-both}
-use Rattle.meaning.proofs.Below.{some-intro, some-elim, none-intro, some-same, first-before, first-passes}
-use Rattle.sets.proofs.Bits.{bit-zero, bit-least, bit-less, bit-out, same-set, zero-set}
+use Rattle.meaning.proofs.Below.{some-intro, none-intro, some-same}
+use Rattle.sets.proofs.Bits.{bit-zero, bit-out}
 use Rattle.sets.proofs.Walk.{next-number}
 use Rattle.enabled.specs.Inputs.{Spread}
 
--- The lowest member of a word that is not empty is below 64, and is in the word.
-pub lowest-in : (a k : ℕ) → a < 2 ^ 64 → ¬ (a ≡ 0) → k ≡ first 64 (bit a) → (k < 64) × (bit a k ≡ true)
-lowest-in a k h n e =
-    let w = some-elim 64 (bit a) (not-false (some 64 (bit a)) (sym (zero-set a h) ∙ ne-eqb a 0 n)) in
-    let above : ¬ (w .0 < first 64 (bit a)) = λ l. not-both (w .2) (first-before 64 (bit a) (w .0) l) in
-    let low : first 64 (bit a) < 64 = omega (arith, w .1) in
-    (omega arith, ap (bit a) e ∙ first-passes 64 (bit a) low)
-
--- Transition t's word has place j, or is to take it: t is in what is left of the row, and place p is j.
-abbrev pub due : List ℕ → ℕ → ℕ → ℕ → ℕ → Bool
-due words left p t j = bit (getD words t 0) j || (bit left t && (eqb p j && ltb p 64))
-
 -- A turn takes member k out of word a and leaves word b.
 module _ (a k b : ℕ) (rest : (j : ℕ) → bit b j ≡ (bit a j && not (eqb k j))) where
-  -- The word falls.
-  pub falls : a < 2 ^ 64 → b < 2 ^ 64 → bit a k ≡ true → b < a
-  falls h l e =
-      let least = bit-least a k e in
-      let same : b ≡ a - 2 ^ k = same-set b (a - 2 ^ k) l (omega arith) (λ j _. rest j ∙ sym (bit-less k a j e)) in
-      omega (arith, pow-pos k)
-
   -- A member that fails the test changes no answer.
   pub passed : (f : ℕ → Bool) → f k ≡ false → some 64 (λ p. bit a p && f p) ≡ some 64 (λ p. bit b p && f p)
   passed f e = some-same 64 _ _ (λ p h. go p (eqb k p) refl)
@@ -45,16 +23,6 @@ module _ (a k b : ℕ) (rest : (j : ℕ) → bit b j ≡ (bit a j && not (eqb k 
       go : (p : ℕ) (x : Bool) → eqb k p ≡ x → (bit a p && f p) ≡ (bit b p && f p)
       go p true q = rw (← eqb-true k p q, e, and-false (bit a k)) (sym (and-false (bit b k)))
       go p false q = rw (rest p, q, and-true (bit a p))
-
-  -- Place p goes into the word of member k: what each transition's word has or is to take stays the same.
-  pub added : (words : List ℕ) (v p : ℕ) → k < length words → bit a k ≡ true
-      → ((j : ℕ) → bit v j ≡ (bit (getD words k 0) j || (eqb p j && ltb p 64))) → (t j : ℕ)
-      → due (set words k v) b p t j ≡ due words a p t j
-  added words v p h e gains t j = go (eqb k t) refl
-    where
-      go : (x : Bool) → eqb k t ≡ x → due (set words k v) b p t j ≡ due words a p t j
-      go true q = rw (← eqb-true k t q, getD-set-same words k v 0 h, gains j, rest k, e, eq-eqb k k refl) (or-false _)
-      go false q = rw (getD-set-other words k t v 0 (λ z. eqb-false k t q (sym z)), rest t, q, and-true (bit a t))
 
   -- Member k is kept if it passes: what is kept or is still to be kept stays the same.
   pub kept : (f : ℕ → Bool) (r after : ℕ) (y : Bool) → k < 64 → bit a k ≡ true → y ≡ f k
@@ -85,10 +53,6 @@ found a k f h e q = some-intro 64 (λ p. bit a p && f p) k h (Rattle.meaning.pr
 
 pub nothing : (a : ℕ) (f : ℕ → Bool) → a ≡ 0 → some 64 (λ p. bit a p && f p) ≡ false
 nothing a f e = none-intro 64 _ (λ k h. rw (e, bit-zero k))
-
--- With nothing left a transition's word has all it was to take.
-pub none-due : (words : List ℕ) (a p t j : ℕ) → a ≡ 0 → bit (getD words t 0) j ≡ due words a p t j
-none-due words a p t j e = rw (e, bit-zero t) (sym (or-false _))
 
 -- Before the first row no word has a place.
 pub no-row : (index : List ℕ) (from t q : ℕ) → t < 64 → q < 64 → bit (getD (replicate 64 0) t 0) q ≡ (ltb q 0 && bit (getD index (from + q) 0) t)

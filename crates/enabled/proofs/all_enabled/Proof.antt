@@ -8,7 +8,8 @@ use borrow.Author.Needs.{needs}
 use borrow.Author.Tests.{lt-ltb}
 use Rattle.meaning.specs.Bytes.{bit}
 use Rattle.enabled.specs.Inputs.{enabled-by}
-use Rattle.enabled.proofs.Walk.{lowest-in, falls, kept, none-kept, all-kept}
+use Rattle.sets.proofs.Members.{lowest-in, falls}
+use Rattle.enabled.proofs.Walk.{kept, none-kept, all-kept}
 use Rattle.enabled.proofs.all_enabled.Statement.{statement}
 use Rattle.enabled.proofs.all_enabled.Tie as tie
 

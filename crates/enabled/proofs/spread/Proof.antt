@@ -1,19 +1,24 @@
 -- The loop keeps what a transition's word has or is still to take: place p, where the row's rest has the transition.
-use mathlib.Core.Bool.{true}
+use mathlib.Core.Bool.{Bool, true, _&&_}
 use mathlib.Core.Path.{_≡_, refl, _∙_}
 use Prim.Native.Nat.{ℕ, _^_, _<_}
 use native.Mathlib.Omega.{arith}
+use lib.Dec.{eqb, ltb}
 use lib.ListN.{length, length-set}
 use borrow.Author.Needs.{needs}
 use Rattle.meaning.specs.Bytes.{bit}
-use Rattle.enabled.proofs.Walk.{lowest-in, due, falls, added, none-due}
+use Rattle.sets.proofs.Members.{lowest-in, due, falls, added, none-due}
 use Rattle.enabled.proofs.spread.Statement.{statement}
 use Rattle.enabled.proofs.spread.Tie as tie
+
+-- What each word takes: place p, where it is below 64.
+abbrev takes : ℕ → ℕ → Bool
+takes p j = eqb p j && ltb p 64
 
 abbrev Inv-loop : tie.InvT-loop
 Inv-loop words₀ row p left₀ words left =
     (left < 2 ^ 64) × (length words ≡ 64)
-    × ((t j : ℕ) → due words left p t j ≡ due words₀ row p t j)
+    × ((t j : ℕ) → due words left (takes p) t j ≡ due words₀ row (takes p) t j)
 
 abbrev μ-loop : tie.MeasureT-loop
 μ-loop words₀ row p left₀ words left = left
@@ -59,14 +64,14 @@ loop-again c =
       omega arith,
       simp length-set (omega arith),
       λ t j.
-          added (at .left) _ (c .rest .result) (λ j. rw (c .before .before .before .lowest .ensures) (c .rest .ensures j)) (at .words) (c .before .with .result) _ (omega (arith, k .0)) (k .1)
+          added (at .left) _ (c .rest .result) (λ j. rw (c .before .before .before .lowest .ensures) (c .rest .ensures j)) (at .words) (c .before .with .result) (takes (c .before .before .before .before .before .before .args .p)) (omega (arith, k .0)) (k .1)
           (c .before .with .ensures) t j ∙ at .inv .2 t j,
     )
 
 returns : tie.Need-returns Inv-loop μ-loop
 returns c =
     let at = c .before .loop in
-    record { size = at .inv .1; holds = λ t j h. none-due (at .words) (at .left) _ t j (c .loop-test .left) ∙ at .inv .2 t j }
+    record { size = at .inv .1; holds = λ t j h. none-due (at .words) (at .left) (takes (c .before .before .args .p)) t j (c .loop-test .left) ∙ at .inv .2 t j }
 
 pub spread-spec : {M : Type 1} → statement M
 spread-spec =

@@ -10,7 +10,7 @@ use borrow.Author.Needs.{needs}
 use Rattle.meaning.specs.Bytes.{bit}
 use Rattle.meaning.proofs.Bool.{and-left}
 use Rattle.sets.proofs.Bits.{bit-zero}
-use Rattle.enabled.proofs.Walk.{lowest-in, falls}
+use Rattle.sets.proofs.Members.{lowest-in, falls}
 use Rattle.fire.specs.Fired.{pays}
 use Rattle.fire.specs.Round.{waits-for}
 use Rattle.fire.proofs.Rounds.{Passed, none-passed, all-passed, one-passed}

@@ -8,7 +8,8 @@ use lib.ListN.{getD}
 use borrow.Author.Needs.{needs}
 use Rattle.meaning.specs.Bytes.{bit}
 use Rattle.resets.specs.Starved.{starved-by}
-use Rattle.enabled.proofs.Walk.{lowest-in, falls, kept, none-kept, all-kept}
+use Rattle.sets.proofs.Members.{lowest-in, falls}
+use Rattle.enabled.proofs.Walk.{kept, none-kept, all-kept}
 use Rattle.resets.proofs.resets.Statement.{statement}
 use Rattle.resets.proofs.resets.Tie as tie
 

@@ -7,7 +7,8 @@ use borrow.Author.Needs.{needs}
 use Rattle.meaning.specs.Below.{some}
 use Rattle.meaning.specs.Bytes.{bit}
 use Rattle.resets.specs.Arc.{starves-at}
-use Rattle.enabled.proofs.Walk.{lowest-in, falls, passed, found, nothing}
+use Rattle.sets.proofs.Members.{lowest-in, falls}
+use Rattle.enabled.proofs.Walk.{passed, found, nothing}
 use Rattle.resets.proofs.starved_from.Statement.{statement}
 use Rattle.resets.proofs.starved_from.Tie as tie
 
