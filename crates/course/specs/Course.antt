@@ -16,18 +16,22 @@ use Rattle.meaning.specs.Calls.{words-of, trace, Run, ran}
 use Rattle.net.specs.Rows.{Gathered, Weights, Sorts}
 use Rattle.timing.specs.declared.Intervals.{Intervals}
 use Rattle.timing.specs.Times.{Times-of}
-use Rattle.table.specs.Index.{Indexed}
+use Rattle.table.specs.Index.{Indexed, Reaches, transitions-below}
+use Rattle.priority.specs.Closed.{Bare}
 use Rattle.image.specs.Held.{Small, held}
 use Rattle.course.specs.declared.Halted.{Halted}
 use Rattle.course.specs.declared.Ended.{Ended}
 
--- The bytes spell an accepted table, and the rows are its own.
+-- The bytes spell an accepted table, whose numbers are below n, and the rows are its own.
 pub record Read (bs : List ℕ) (x : Intervals) (index higher : List ℕ) (w s : List (List ℕ))
-    (takers truths falses : List ℕ) : Type 0 where
+    (takers truths falses : List ℕ) (n : ℕ) : Type 0 where
   pub sound : check bs ≡ accepted 0
   pub index-holds : Indexed (table bs) (table bs .records) index
+  pub reaches : Reaches index n
+  pub below : (r : ℕ) → r < table bs .records → (table bs .one r < n) × (table bs .two r < n)
   pub times : Times-of (table bs) x
   pub higher-is : (u t : ℕ) → u < 64 → t < 64 → bit (getD higher u 0) t ≡ above (table bs) u t
+  pub bare : Bare (transitions-below n) higher
   pub weights : Weights (table bs) w
   pub sorts : Sorts (table bs) s
   pub takers-hold : Gathered (table bs) 3 0 takers

@@ -34,59 +34,80 @@ fn cycles(
     report: &mut [u8],
     known: u64,
     timed: u64,
+    conditional: u64,
+    lower: u64,
     acting: Places,
+    n: usize,
     sorts: &[u8; 64],
     a: &[u16; 64],
     b: &[u16; 64],
+    limit: &[u32; 64],
+    last: &[u32; 64],
     index: &[u64; 768],
     higher: &[u64; 64],
     w: &[[u16; 64]; 128],
     s: &[[u8; 64]; 128],
-    posts: &[[u16; 64]; 128],
     takers: &[u64; 128],
-    putters: &[u64; 128],
     low: &[u64; 64],
     high: &[u64; 64],
-    outlow: &[u64; 64],
-    outhigh: &[u64; 64],
+    plain: &[u64; 128],
+    curbs: &[u64; 128],
+    most: &[u32; 128],
+    takes: &[u16; 64],
+    puts: &[u16; 64],
+    next: &[u16; 1024],
     truths: &[u64; 128],
     falses: &[u64; 128],
 ) -> Halted
-    requires { ⌜ Net-of (now t) known timed acting (record { sorts = now sorts; a = now a; b = now b }) (now index) (now higher) (now w) (now s) (now posts) (now takers) (now putters) (now low) (now high) (now outlow) (now outhigh) (now truths) (now falses) ⌝ }
+    requires { ⌜ Net-of (now t) known timed conditional lower acting n (record { sorts = now sorts; a = now a; b = now b }) (now limit) (now last) (now index) (now higher) (now w) (now s) (now takers) (now low) (now high) (now plain) (now curbs) (now most) (now takes) (now puts) (now next) (now truths) (now falses) ⌝ }
     requires { ⌜ Ready (now t) (now image) (now words) (now report) ⌝ }
     ensures { λ e. ⌜ Halts (now (t .entry)) (now (image .entry)) (now (words .entry)) (now (report .entry)) e (now (report .exit)) ⌝ }
 {
-    let n = words.len() / 8;
+    let count = words.len() / 8;
     let h = image::load(image);
     let mut tokens = h.tokens;
     let mut counters = h.counters;
     let mut orders = h.orders;
+    let mut held = [0u64; 128];
+    enabled::hold(&mut held, &tokens, index, plain, curbs, most, w, s, n);
+    let mut taken = [0u32; 128];
+    let mut put = [0u32; 128];
     let mut i = 0;
-    while i < n {
+    while i < count {
         let word = words::word(words, i);
         let r = cycle::step(
             t,
             &mut tokens,
             &mut counters,
+            &mut held,
+            &mut taken,
+            &mut put,
             orders,
             word,
             known,
             timed,
+            conditional,
+            lower,
             acting,
+            n,
             sorts,
             a,
             b,
+            limit,
+            last,
             index,
             higher,
             w,
             s,
-            posts,
             takers,
-            putters,
             low,
             high,
-            outlow,
-            outhigh,
+            plain,
+            curbs,
+            most,
+            takes,
+            puts,
+            next,
             truths,
             falses,
         );
@@ -115,7 +136,7 @@ fn cycles(
         },
         number: 0,
         at: 0,
-        cycles: n,
+        cycles: count,
     }
 }
 
@@ -132,7 +153,7 @@ fn keep(image: &mut [u8], h: Held, done: usize)
 }
 
 // The cycles of a call whose checks are passed: what the rows leave out is made of them, then one cycle a word, then the image is written. With
-// no words nothing is done.
+// no words nothing is done. No number in the table is at the reach or past it.
 pub fn course(
     t: &[u8],
     image: &mut [u8],
@@ -146,8 +167,9 @@ pub fn course(
     takers: &[u64; 128],
     truths: &[u64; 128],
     falses: &[u64; 128],
+    reach: usize,
 ) -> Ended
-    requires { ⌜ Read (now t) x (now index) (now above) (now w) (now s) (now takers) (now truths) (now falses) ⌝ }
+    requires { ⌜ Read (now t) x (now index) (now above) (now w) (now s) (now takers) (now truths) (now falses) reach ⌝ }
     requires { ⌜ Ready (now t) (now image) (now words) (now report) ⌝ }
     ensures { λ e. ⌜ Ends (now (t .entry)) (now (image .entry)) (now (words .entry)) (now (report .entry)) e (now (image .exit)) (now (report .exit)) ⌝ }
 {
@@ -158,22 +180,31 @@ pub fn course(
             cycles: 0,
         };
     }
-    let mut posts = [[0u16; 64]; 128];
-    let mut putters = [0u64; 128];
-    net::posts(t, &mut posts, &mut putters);
-    let higher = priority::turn(above);
-    let inputs = enabled::inputs_of(index);
+    let mut takes = [0u16; 64];
+    let mut puts = [0u16; 64];
+    let mut next = [0u16; 1024];
+    net::chains(t, &mut takes, &mut puts, &mut next);
+    let fewer = table::transitions(reach);
+    let higher = priority::turn(above, fewer);
+    let lower = priority::lower(above, fewer);
+    let inputs = enabled::inputs_of(index, reach);
     let low = inputs.low;
     let high = inputs.high;
-    let outputs = enabled::outputs_of(index);
-    let outlow = outputs.low;
-    let outhigh = outputs.high;
-    let known = enabled::known(index);
-    let timed = resets::timed(x);
-    let acting = report::acting(index);
+    let n = enabled::bound(index);
+    let mut plain = [0u64; 128];
+    let mut curbs = [0u64; 128];
+    let mut most = [0u32; 128];
+    enabled::sort_arcs(&mut plain, &mut curbs, &mut most, index, w, s, n);
+    let known = enabled::known(index, reach);
+    let timed = enabled::timed(x, fewer);
+    let acting = report::acting(index, reach);
+    let conditional = edges::conditional(truths, falses, fewer);
     let sorts = x.sorts;
     let a = x.a;
     let b = x.b;
+    let mut limit = [0u32; 64];
+    let mut last = [0u32; 64];
+    edges::limits(&mut limit, &mut last, &sorts, &a, &b, fewer);
     let e = cycles(
         t,
         image,
@@ -181,21 +212,28 @@ pub fn course(
         report,
         known,
         timed,
+        conditional,
+        lower,
         acting,
+        n,
         &sorts,
         &a,
         &b,
+        &limit,
+        &last,
         index,
         &higher,
         w,
         s,
-        &posts,
         takers,
-        &putters,
         &low,
         &high,
-        &outlow,
-        &outhigh,
+        &plain,
+        &curbs,
+        &most,
+        &takes,
+        &puts,
+        &next,
         truths,
         falses,
     );

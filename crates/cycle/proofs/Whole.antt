@@ -5,14 +5,14 @@ use mathlib.Core.Path.{_≡_, refl, sym, ap, _∙_, fun-ext}
 use Prim.Native.Nat.{ℕ, _+_, _-_, _^_, _≤_, _<_}
 use native.Mathlib.Omega.{arith}
 use lib.Dec.{ltb, eqb}
-use lib.ListN.{getD}
-use borrow.Author.Tests.{eqb-true, lt-ltb, le-ltb}
+use lib.ListN.{length, getD}
+use borrow.Author.Tests.{lt-ltb, le-ltb, ltb-false}
 use Rattle.meaning.specs.Below.{some, sum, first, within}
 use Rattle.meaning.specs.Bytes.{bit}
-use Rattle.meaning.specs.Table.{Table, table, is, post, transition, timing, ceiling}
+use Rattle.meaning.specs.Table.{Table, table, total, transition, timing, ceiling}
 use Rattle.meaning.specs.Cycle.{enabled, counted, falling, as-wanted, in-time, firable, withdrawn, added, fired, rising, marked, reset, active, executed, overfull}
-use Rattle.meaning.proofs.Below.{sum-mono, first-same}
-use Rattle.meaning.proofs.Bool.{and-left, or-false-left, or-false-right}
+use Rattle.meaning.proofs.Below.{first-same, first-before}
+use Rattle.meaning.proofs.Bool.{or-false-left, or-false-right}
 use Rattle.meaning.proofs.Accepted.{accepted-well}
 use Rattle.table.proofs.Carry.{Clean}
 use Rattle.places.specs.declared.Places.{Places}
@@ -23,30 +23,33 @@ use Rattle.timing.proofs.Carry.{sort-is}
 use Rattle.image.specs.declared.Held.{Held}
 use Rattle.image.specs.Held.{held, Holds, Small}
 use Rattle.enabled.specs.Inputs.{enabled-by}
-use Rattle.enabled.proofs.Carry.{enabled-same, taker-near, outputs-same}
+use Rattle.enabled.specs.Held.{Weighty, Holds-back}
+use Rattle.enabled.proofs.Carry.{enabled-same, arc-cell, held-same}
 use Rattle.edges.specs.Edges.{fallen, fallen-at, Falls, firable-at}
 use Rattle.edges.proofs.Carry.{fallen-same, timely-same, asked-same}
-use Rattle.moves.specs.Moves.{moved-at, at-words}
-use Rattle.moves.proofs.Carry.{withdrawn-same, added-same}
-use Rattle.moves.proofs.Near.{moved-outside}
+use Rattle.moves.specs.declared.Moved.{Moved}
+use Rattle.moves.specs.Moves.{moved-at}
+use Rattle.moves.specs.Tallied.{Unmoved, Tallied, moved-by, moved-at-all}
+use Rattle.moves.proofs.Carry.{withdrawn-same, taken-is, put-is, unmoved}
+use Rattle.moves.proofs.Sums.{load-most}
+use Rattle.moves.proofs.Turns.{in-range}
+use Rattle.net.proofs.Arcs.{few-records}
 use Rattle.fire.specs.Fired.{Ranks, Fires}
-use Rattle.fire.proofs.Carry.{listed, listed-at, well-ranks, fires-is}
-use Rattle.settle.specs.Settle.{new-at, Weighed, Settled}
-use Rattle.settle.proofs.Little.{all-taken, all-put}
-use Rattle.resets.specs.Starved.{reset-by}
-use Rattle.resets.proofs.Carry.{starved-near, starved-same}
+use Rattle.fire.proofs.Carry.{well-ranks, fires-is}
+use Rattle.settle.specs.Settle.{new-at, Low, Crowded, Settled, Starves}
+use Rattle.settle.proofs.Carry.{starves-same}
 use Rattle.report.proofs.Carry.{bits-of, acting-same, actions-are, functions-are}
-use Rattle.cycle.specs.Step.{Net-of, Sized, Stepped}
-use Rattle.cycle.proofs.Facts.{latest-low, weight-low, sound, arcs, input-once, post-once, conditions, untimed, fine}
+use Rattle.cycle.specs.Step.{Net-of, Sized, Poised, Stepped}
+use Rattle.cycle.proofs.Facts.{weight-low, sound, arcs, input-once, conditions, untimed, fine}
 
 -- Four tests, the last three together.
 grouped : (a b c d : Bool) → (a && b && c && d) ≡ (a && (b && c && d))
 grouped true b c d = refl
 grouped false b c d = refl
 
-module _ (bs : List ℕ) (known timed : ℕ) (acting : Places) (x : Intervals) (index higher : List ℕ) (w s posts : List (List ℕ))
-    (takers putters low high outs-low outs-high truths falses : List ℕ)
-    (net : Net-of bs known timed acting x index higher w s posts takers putters low high outs-low outs-high truths falses) where
+module _ (bs : List ℕ) (known timed conditional lower : ℕ) (acting : Places) (n : ℕ) (x : Intervals) (limit last index higher : List ℕ)
+    (w s : List (List ℕ)) (takers low high plain curbs most takes puts next truths falses : List ℕ)
+    (net : Net-of bs known timed conditional lower acting n x limit last index higher w s takers low high plain curbs most takes puts next truths falses) where
   clean : Clean (table bs) index
   clean = record { fine = fine bs (net .sound); index = net .index-holds }
 
@@ -54,27 +57,49 @@ module _ (bs : List ℕ) (known timed : ℕ) (acting : Places) (x : Intervals) (
   pub ranks : Ranks higher
   ranks = well-ranks (table bs) (accepted-well bs (net .sound)) higher (net .higher-is)
 
+  timed-bit : (t : ℕ) → t < 64 → bit timed t ≡ not (eqb (timing (table bs) t) 0)
+  timed-bit t l = net .timed-is t l ∙ ap (λ (k : ℕ). not (eqb k 0)) (sort-is (table bs) (sound bs (net .sound)) x (net .times) t l)
+
+  -- Every input arc has a weight.
+  pub weighty : Weighty index w
+  weighty =
+      record {
+        least = λ p t h l e.
+            arc-cell (table bs) w s index (record { low = low; high = high }) (net .weights) (net .sorts) clean (net .inputs) (arcs bs (net .sound))
+            (input-once bs (net .sound)) t l p h e .0;
+      }
+
   enables : (m : List ℕ) (t : ℕ) → t < 64 → enabled-by m w s (getD low t 0) (getD high t 0) t ≡ enabled (table bs) (λ p. getD m p 0) t
   enables m t h =
       enabled-same (table bs) w s index (record { low = low; high = high }) (net .weights) (net .sorts) clean (net .inputs) (arcs bs (net .sound))
       (input-once bs (net .sound)) t h m
 
-  takes : (set p : ℕ) → p < 128 → moved-at set takers w p ≡ withdrawn (table bs) (bit set) p
-  takes =
+  takes-by-rows : (set p : ℕ) → p < 128 → moved-at set takers w p ≡ withdrawn (table bs) (bit set) p
+  takes-by-rows =
       withdrawn-same (table bs) (λ r h k. (arcs bs (net .sound) r h k .0, arcs bs (net .sound) r h k .1)) w takers (net .weights) (net .takers-hold)
       (input-once bs (net .sound))
 
-  puts : (set p : ℕ) → p < 128 → moved-at set putters posts p ≡ added (table bs) (bit set) p
-  puts =
-      added-same (table bs) (λ r h k. (arcs bs (net .sound) r h k .0, arcs bs (net .sound) r h k .1)) posts putters (net .posts-hold)
-      (λ p t h l. net .putters-hold .holds p t h l) (post-once bs (net .sound))
+  -- No place is put more than 1,024 arcs can put.
+  put-most : (sort : ℕ) (F : ℕ → Bool) (p : ℕ) → moved-by (table bs) sort F p ≤ 67107840
+  unfolding total
+  put-most sort F p =
+      let most = load-most (table bs) sort (λ k l a. in-range bs (net .sound) sort k l a .3) (λ k. F (table bs .two k)) p in
+      omega (arith, most, few-records bs (net .sound))
 
-  module _ (h : Held) (on : ℕ)
-      (on-is : (t : ℕ) → bit on t ≡ (ltb t 64 && (bit known t && enabled-by (h .tokens) w s (getD low t 0) (getD high t 0) t)))
+  module _ (h : Held) (small : Small h) (stopped : List ℕ) (back : Holds-back index w s (h .tokens) stopped) (shut on : ℕ)
+      (shut-is : (t : ℕ) → bit shut t ≡ some n (λ p. bit (getD stopped p 0) t)) (on-is : (t : ℕ) → bit on t ≡ (bit known t && not (bit shut t)))
       (counters : List ℕ) (falls : Falls timed x (h .orders) on (h .counters) counters) where
     -- The set of the enabled has the enabled transitions.
     on-bit : (t : ℕ) → t < 64 → bit on t ≡ (transition (table bs) t && enabled (table bs) (held h .tokens) t)
-    on-bit t l = on-is t ∙ rw (lt-ltb t 64 l, net .known-is t l, enables (h .tokens) t l)
+    on-bit t l =
+        on-is t
+        ∙ rw (
+          net .known-is t l,
+          shut-is t,
+          held-same (table bs) w s index (record { low = low; high = high }) (net .weights) (net .sorts) clean (net .inputs) (arcs bs (net .sound))
+              (input-once bs (net .sound)) t l n (net .within) (h .tokens) stopped back,
+          enables (h .tokens) t l,
+        )
 
     -- The counter of an untimed transition stays, as it does at the falling edge.
     fallen-is : (t : ℕ) → t < 64 → getD counters t 0 ≡ fallen-at x (h .counters) (h .orders) on t
@@ -86,8 +111,8 @@ module _ (bs : List ℕ) (known timed : ℕ) (acting : Places) (x : Intervals) (
 
         go : (b : Bool) → eqb (timing (table bs) t) 0 ≡ b
             → cond (bit timed t) (fallen-at x (h .counters) (h .orders) on t) (getD (h .counters) t 0) ≡ fallen-at x (h .counters) (h .orders) on t
-        go true e = rw (net .timed-is t l, e, sort, e)
-        go false e = rw (net .timed-is t l, e)
+        go true e = rw (timed-bit t l, e, sort, e)
+        go false e = rw (timed-bit t l, e)
 
     -- The counters are those after the falling edge.
     pub counter-is : (t : ℕ) → t < 64 → getD counters t 0 ≡ counted (table bs) (held h) t
@@ -119,37 +144,37 @@ module _ (bs : List ℕ) (known timed : ℕ) (acting : Places) (x : Intervals) (
         unfolding falling
         fired-bit =
             fires-is (table bs) (accepted-well bs (net .sound)) higher (net .higher-is) (falling (table bs) (held h)) word able (h .tokens) w s takers low high
-            able-bit (λ p l. refl) takes enables f f-low fires
+            able-bit (λ p l. refl) takes-by-rows enables f f-low fires
 
         -- So the sets are one, and a law about one is a law about the other.
         one-set : bit f ≡ within (fired (table bs) (falling (table bs) (held h)) word)
         one-set = fun-ext fired-bit
 
-        -- The places of the fired ones' arcs.
-        module _ (from to at : Places) (from-is : (p : ℕ) → has from p ≡ some 64 (λ t. bit f t && at-words low high t p))
-            (to-is : (p : ℕ) → has to p ≡ some 64 (λ t. bit f t && at-words outs-low outs-high t p))
-            (at-is : (p : ℕ) → has at p ≡ (has from p || has to p)) where
-          taker-has : (p t : ℕ) → p < 128 → t < 64 → bit (getD takers p 0) t ≡ true → at-words low high t p ≡ true
-          taker-has p t l m =
-              taker-near (table bs) w s index (record { low = low; high = high }) (net .weights) (net .sorts) clean (net .inputs) (arcs bs (net .sound))
-              (input-once bs (net .sound)) t m takers (net .takers-hold) p l
+        -- What the fired ones take and put, and where.
+        module _ (nowhere : Places) (nothing : (p : ℕ) → has nowhere p ≡ false) (taken put : List ℕ) (from to : Moved)
+            (taking : Tallied (table bs) 0 f (h .tokens) nowhere taken from) (putting : Tallied (table bs) 3 f (h .tokens) (from .at) put to) where
+          is-taken : (p : ℕ) → p < 128 → getD taken p 0 ≡ withdrawn (table bs) (bit f) p
+          is-taken = taken-is (table bs) f (h .tokens) nowhere taken from taking
 
-          putter-has : (p t : ℕ) → p < 128 → t < 64 → bit (getD putters p 0) t ≡ true → at-words outs-low outs-high t p ≡ true
-          putter-has p t l m e =
-              outputs-same (table bs) index clean (record { low = outs-low; high = outs-high }) (net .outputs) t p m l
-              ∙ sym (net .putters-hold .holds p t l m) ∙ e
+          is-put : (p : ℕ) → p < 128 → getD put p 0 ≡ added (table bs) (bit f) p
+          is-put = put-is (table bs) f (h .tokens) (from .at) put to putting
 
           -- Elsewhere nothing is taken, and nothing is put.
-          not-taken : (p : ℕ) → p < 128 → has at p ≡ false → moved-at f takers w p ≡ 0
-          not-taken p l e = moved-outside from f takers w low high from-is taker-has p l (or-false-left (has from p) (has to p) (sym (at-is p) ∙ e))
+          not-taken : (p : ℕ) → p < 128 → has (to .at) p ≡ false → getD taken p 0 ≡ 0
+          not-taken p l e =
+              let none = or-false-left (has (from .at) p) _ (sym (putting .at-is p l) ∙ e) in
+              taking .moved-is p l ∙ unmoved (table bs) 0 (bit f) p (or-false-right (has nowhere p) _ (sym (taking .at-is p l) ∙ none))
 
-          not-put : (p : ℕ) → p < 128 → has at p ≡ false → moved-at f putters posts p ≡ 0
-          not-put p l e = moved-outside to f putters posts outs-low outs-high to-is putter-has p l (or-false-right (has from p) (has to p) (sym (at-is p) ∙ e))
+          put-none : (p : ℕ) → p < 128 → moved-at-all (table bs) 3 (bit f) p ≡ false → getD put p 0 ≡ 0
+          put-none p l e = putting .moved-is p l ∙ unmoved (table bs) 3 (bit f) p e
+
+          not-put : (p : ℕ) → p < 128 → has (to .at) p ≡ false → getD put p 0 ≡ 0
+          not-put p l e = put-none p l (or-false-right (has (from .at) p) _ (sym (putting .at-is p l) ∙ e))
 
           abbrev new : ℕ → ℕ
-          new = new-at (h .tokens) f takers w putters posts
+          new = new-at (h .tokens) taken put
 
-          stays : (p : ℕ) → p < 128 → has at p ≡ false → new p ≡ getD (h .tokens) p 0
+          stays : (p : ℕ) → p < 128 → has (to .at) p ≡ false → new p ≡ getD (h .tokens) p 0
           stays p l e = rw (not-taken p l e, not-put p l e) (omega arith)
 
           -- The new tokens are those of the new marking.
@@ -158,21 +183,30 @@ module _ (bs : List ℕ) (known timed : ℕ) (acting : Places) (x : Intervals) (
               ≡ marked (table bs) (held h .tokens) (within (fired (table bs) (falling (table bs) (held h)) word)) p
           unfolding marked
           token-is p l =
-              let here : new p ≡ marked (table bs) (held h .tokens) (bit f) p = rw (takes f p l, puts f p l) in
+              let here : new p ≡ marked (table bs) (held h .tokens) (bit f) p = rw (is-taken p l, is-put p l) in
               here ∙ ap (λ (F : ℕ → Bool). marked (table bs) (held h .tokens) F p) one-set
 
-          module _ (small : Small h) (over : ℕ) (taken₀ put₀ taken put : List ℕ)
-              (weighed : Weighed at (h .tokens) f takers w putters posts over taken₀ put₀ taken put)
-              (actions functions : ℕ)
+          pub low-enough : Low (h .tokens) put
+          low-enough = record { tokens = small .tokens; put-low = λ p l. rw (putting .moved-is p l) (put-most 3 (bit f) p) }
+
+          -- A place at which something is put is counted for the crowd, and any other has no more than it had.
+          pub crowded : Crowded (to .at) (to .crowd) (h .tokens) taken put
+          crowded = record { few = λ p l e c. go p l c (moved-at-all (table bs) 3 (bit f) p) refl }
+            where
+              go : (p : ℕ) → p < 128 → to .crowd ≤ 65535 → (b : Bool) → moved-at-all (table bs) 3 (bit f) p ≡ b → new p ≤ 65535
+              go p l c true e = omega (arith, c, putting .crowd-is p l e)
+              go p l c false e = omega (arith, put-none p l e, small .tokens p l)
+
+          module _ (over : ℕ) (over-is : over ≡ first 128 (λ p. has (to .at) p && ltb 65535 (new p))) (actions functions : ℕ)
               (actions-is : (k : ℕ) → bit actions k ≡ some 128 (λ p. has acting p && (ltb 0 (getD (h .tokens) p 0) && bit (getD index (576 + p) 0) k)))
               (functions-is : (k : ℕ) → bit functions k ≡ some 64 (λ t. bit f t && bit (getD index (704 + t) 0) k))
               (actions-low : actions < 2 ^ 64) (functions-low : functions < 2 ^ 64) where
             -- No place elsewhere is overfull.
             first-is : over ≡ first 128 (overfull (table bs) (rising (table bs) (falling (table bs) (held h)) (within (fired (table bs) (falling (table bs) (held h)) word))))
             unfolding falling rising overfull ceiling
-            first-is = weighed .over-is ∙ first-same 128 _ _ (λ p l. go p l (has at p) refl ∙ ap (ltb 65535) (token-is p l))
+            first-is = over-is ∙ first-same 128 _ _ (λ p l. go p l (has (to .at) p) refl ∙ ap (ltb 65535) (token-is p l))
               where
-                go : (p : ℕ) → p < 128 → (b : Bool) → has at p ≡ b → (b && ltb 65535 (new p)) ≡ ltb 65535 (new p)
+                go : (p : ℕ) → p < 128 → (b : Bool) → has (to .at) p ≡ b → (b && ltb 65535 (new p)) ≡ ltb 65535 (new p)
                 go p l true e = refl
                 go p l false e = sym (rw (stays p l e) (le-ltb 65535 (getD (h .tokens) p 0) (small .tokens p l)))
 
@@ -202,38 +236,32 @@ module _ (bs : List ℕ) (known timed : ℕ) (acting : Places) (x : Intervals) (
                 → Stepped (table bs) h word (record { fired = f; actions = actions; functions = functions; over = over; orders = h .orders }) (h .tokens) (h .counters)
             bursts l sized = says (h .orders) (h .tokens) (h .counters) (λ b. (refl, refl, refl)) (λ b. absurd (omega (arith, b, l))) sized
 
-            module _ (full : 128 ≤ over) (after : ℕ)
-                (after-is : (t : ℕ) → bit after t ≡ (ltb t 64 && reset-by at timed f (h .tokens) taken w s low high t)) (tokens : List ℕ)
-                (settled : Settled (h .tokens) at taken put tokens) where
+            module _ (full : 128 ≤ over) (starved after : ℕ) (starves : Starves (h .tokens) (to .at) taken plain w starved)
+                (after-is : (t : ℕ) → bit after t ≡ (bit timed t && (bit f t || bit starved t))) (tokens taken′ put′ : List ℕ)
+                (settled : Settled (h .tokens) (to .at) taken put tokens taken′ put′) where
               -- The orders are those after the rising edge.
               order-is : (t : ℕ) → t < 64 → bit after t ≡ reset (table bs) (held h .tokens) (bit f) t
               unfolding reset
               order-is t l =
                   after-is t
                   ∙ rw (
-                    lt-ltb t 64 l,
-                    net .timed-is t l,
-                    starved-near at (h .tokens) taken all w s (getD low t 0) (getD high t 0) t
-                        (λ p m e. all-taken weighed full p m e ∙ sym (listed-at 128 (moved-at f takers w) p m))
-                        (λ p m e. listed-at 128 (moved-at f takers w) p m ∙ not-taken p m e),
-                    starved-same (table bs) w s index (record { low = low; high = high }) (net .weights) (net .sorts) clean (net .inputs)
-                        (arcs bs (net .sound)) (input-once bs (net .sound)) t l (h .tokens) all (bit f)
-                        (λ p m. listed-at 128 (moved-at f takers w) p m ∙ takes f p m),
+                    timed-bit t l,
+                    starves-same (table bs) w s index (record { low = low; high = high }) (net .weights) (net .sorts) clean (net .inputs)
+                        (arcs bs (net .sound)) (input-once bs (net .sound)) t l (h .tokens) taken plain curbs most (to .at) starved (net .arcs) starves (bit f)
+                        is-taken not-taken,
                   )
-                where
-                  all : List ℕ
-                  all = listed 128 (moved-at f takers w)
 
               settles : (p : ℕ) → p < 128 → getD tokens p 0 ≡ new p
-              settles p l = settled .tokens p l ∙ go (has at p) refl
+              settles p l = settled .tokens p l ∙ go (has (to .at) p) refl
                 where
-                  go : (b : Bool) → has at p ≡ b → cond b (getD (h .tokens) p 0 - getD taken p 0 + getD put p 0) (getD (h .tokens) p 0) ≡ new p
-                  go true e = rw (all-taken weighed full p l e, all-put weighed full p l e)
+                  go : (b : Bool) → has (to .at) p ≡ b → cond b (new p) (getD (h .tokens) p 0) ≡ new p
+                  go true e = refl
                   go false e = sym (stays p l e)
 
-              pub stepped : Stepped (table bs) h word (record { fired = f; actions = actions; functions = functions; over = over; orders = after }) tokens counters
+              pub stepped : length counters ≡ 64
+                  → Stepped (table bs) h word (record { fired = f; actions = actions; functions = functions; over = over; orders = after }) tokens counters
               unfolding falling rising
-              stepped =
+              stepped size =
                   says after tokens counters (λ b. absurd (omega (arith, b, full)))
                   (λ b.
                   record {
@@ -241,4 +269,33 @@ module _ (bs : List ℕ) (known timed : ℕ) (acting : Places) (x : Intervals) (
                     counters = counter-is;
                     orders = λ t l. order-is t l ∙ ap (λ (F : ℕ → Bool). reset (table bs) (held h .tokens) F t) one-set;
                   })
-                  (record { places = settled .size; transitions = falls .size })
+                  (record { places = settled .sizes .0; transitions = size })
+
+              -- No place has more tokens than it may, and what was taken and put is done with.
+              tokens-low : (p : ℕ) → p < 128 → getD tokens p 0 ≤ 65535
+              tokens-low p l = rw (settles p l) (go (has (to .at) p) refl)
+                where
+                  overfull-at : ℕ → Bool
+                  overfull-at q = has (to .at) q && ltb 65535 (new q)
+
+                  go : (b : Bool) → has (to .at) p ≡ b → new p ≤ 65535
+                  go true e =
+                      let inside : p < first 128 overfull-at = omega (arith, over-is, full) in
+                      ltb-false 65535 (new p) (rw e at (first-before 128 overfull-at p inside))
+                  go false e = rw (stays p l e) (small .tokens p l)
+
+              pub poised : (stopped′ : List ℕ) → Holds-back index w s tokens stopped′ → Poised index w s tokens stopped′ taken′ put′
+              poised stopped′ again =
+                  record {
+                    back = again;
+                    none-taken = record { size = settled .sizes .1; none = λ p l. settled .no-taken p l ∙ clear p l (has (to .at) p) refl; tokens = tokens-low };
+                    none-put = record { size = settled .sizes .2; none = λ p l. settled .no-put p l ∙ clear-put p l (has (to .at) p) refl; tokens = tokens-low };
+                  }
+                where
+                  clear : (p : ℕ) → p < 128 → (b : Bool) → has (to .at) p ≡ b → cond b 0 (getD taken p 0) ≡ 0
+                  clear p l true e = refl
+                  clear p l false e = not-taken p l e
+
+                  clear-put : (p : ℕ) → p < 128 → (b : Bool) → has (to .at) p ≡ b → cond b 0 (getD put p 0) ≡ 0
+                  clear-put p l true e = refl
+                  clear-put p l false e = not-put p l e

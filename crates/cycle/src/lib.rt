@@ -1,9 +1,10 @@
 // One cycle over the rows of an accepted table: the falling edge, then the rising edge.
 use places::Places;
 ghost use mathlib.Core.Path.{_≡_};
+ghost use Prim.Native.Nat.{_≤_};
 ghost use Rattle.image.specs.Held.{Small};
 ghost use Rattle.meaning.specs.Table.{table};
-ghost use Rattle.cycle.specs.Step.{Net-of, Sized, Stepped};
+ghost use Rattle.cycle.specs.Step.{Net-of, Sized, Poised, Stepped};
 
 // What a cycle comes to: the three sets of its record, the lowest place that would be overfull (128 if none), and the reset orders after it.
 pub struct Outcome {
@@ -15,64 +16,67 @@ pub struct Outcome {
 }
 
 // One cycle of the table t, whose rows the other arguments are, from the state of these tokens, counters and orders, with a word. The tokens and
-// counters become those after the cycle, and stay as they are where a place would be overfull.
+// counters become those after the cycle, and stay as they are where a place would be overfull. Whom the tokens hold back is kept from cycle to
+// cycle; what is taken and put is lent empty, and is empty again after a cycle that is not refused.
 pub fn step(
     t: &[u8],
     tokens: &mut [u32; 128],
     counters: &mut [u32; 64],
+    held: &mut [u64; 128],
+    taken: &mut [u32; 128],
+    put: &mut [u32; 128],
     orders: u64,
     word: u64,
     known: u64,
     timed: u64,
+    conditional: u64,
+    lower: u64,
     acting: Places,
+    n: usize,
     sorts: &[u8; 64],
     a: &[u16; 64],
     b: &[u16; 64],
+    limit: &[u32; 64],
+    last: &[u32; 64],
     index: &[u64; 768],
     higher: &[u64; 64],
     w: &[[u16; 64]; 128],
     s: &[[u8; 64]; 128],
-    posts: &[[u16; 64]; 128],
     takers: &[u64; 128],
-    putters: &[u64; 128],
     low: &[u64; 64],
     high: &[u64; 64],
-    outlow: &[u64; 64],
-    outhigh: &[u64; 64],
+    plain: &[u64; 128],
+    curbs: &[u64; 128],
+    most: &[u32; 128],
+    takes: &[u16; 64],
+    puts: &[u16; 64],
+    next: &[u16; 1024],
     truths: &[u64; 128],
     falses: &[u64; 128],
 ) -> Outcome
-    requires { ⌜ Net-of (now t) known timed acting (record { sorts = now sorts; a = now a; b = now b }) (now index) (now higher) (now w) (now s) (now posts) (now takers) (now putters) (now low) (now high) (now outlow) (now outhigh) (now truths) (now falses) ⌝ }
+    requires { ⌜ Net-of (now t) known timed conditional lower acting n (record { sorts = now sorts; a = now a; b = now b }) (now limit) (now last) (now index) (now higher) (now w) (now s) (now takers) (now low) (now high) (now plain) (now curbs) (now most) (now takes) (now puts) (now next) (now truths) (now falses) ⌝ }
     requires { ⌜ Small (record { tokens = now tokens; counters = now counters; orders = orders }) ⌝ }
     requires { ⌜ Sized (now tokens) (now counters) ⌝ }
+    requires { ⌜ Poised (now index) (now w) (now s) (now tokens) (now held) (now taken) (now put) ⌝ }
     ensures { λ r. ⌜ Stepped (table (now (t .entry))) (record { tokens = now (tokens .entry); counters = now (counters .entry); orders = orders }) word r (now (tokens .exit)) (now (counters .exit)) ⌝ }
+    ensures { λ r. ⌜ (128 ≤ r .over → Poised (now (index .entry)) (now (w .entry)) (now (s .entry)) (now (tokens .exit)) (now (held .exit)) (now (taken .exit)) (now (put .exit))) ⌝ }
 {
     // The falling edge.
-    let on = enabled::all_enabled(tokens, w, s, low, high, known);
-    let mut next = *counters;
-    edges::fall(&mut next, timed, orders, on, sorts, a, b);
+    let on = sets::less(known, enabled::all_of(held, n));
+    let before = *counters;
+    let ready = edges::fall(counters, timed, orders, on, a, limit, last);
     // The rising edge.
-    let able = edges::firable(on, &next, sorts, a, b, truths, falses, word);
-    let fired = fire::fired(able, higher, tokens, w, s, takers, low, high);
+    let able = edges::firable(on, timed, ready, conditional, truths, falses, word);
+    let fired = fire::fired(able, lower, higher, tokens, w, s, takers, low, high);
     let actions = report::actions(acting, tokens, index);
     let functions = report::functions(fired, index);
-    let from = moves::touched(fired, low, high);
-    let to = moves::touched(fired, outlow, outhigh);
-    let at = places::union(from, to);
-    let mut taken = [0u32; 128];
-    let mut put = [0u32; 128];
-    let over = settle::weigh(
-        &mut taken,
-        &mut put,
-        at,
-        tokens,
-        fired,
-        takers,
-        w,
-        putters,
-        posts,
-    );
+    let nowhere = Places { low: 0, high: 0 };
+    let from = moves::tally(t, taken, tokens, nowhere, fired, takes, next, 0);
+    let to = moves::tally(t, put, tokens, from.at, fired, puts, next, 3);
+    let at = to.at;
+    let over = settle::over(at, to.crowd, tokens, taken, put);
     if over < 128 {
+        *counters = before;
         return Outcome {
             fired,
             actions,
@@ -81,14 +85,24 @@ pub fn step(
             orders,
         };
     }
-    let after = resets::resets(at, timed, fired, tokens, &taken, w, s, low, high);
-    settle::settle(tokens, at, &taken, &put);
-    *counters = next;
+    let starved = settle::settle(
+        tokens,
+        held,
+        taken,
+        put,
+        at,
+        index,
+        plain,
+        curbs,
+        most,
+        w,
+        s,
+    );
     Outcome {
         fired,
         actions,
         functions,
         over,
-        orders: after,
+        orders: timed & sets::union(fired, starved),
     }
 }

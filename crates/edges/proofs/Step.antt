@@ -1,23 +1,21 @@
--- A set inside another; and the walk over a set's members in order, each kept or not.
-use mathlib.Core.Bool.{Bool, true, false, not, _&&_, _||_, and-true, and-false, or-false}
+-- A set inside another; and walks over a set's members: each turn writes one row, or keeps or drops one member, and what all come to stays the same.
+use mathlib.Core.Bool.{Bool, true, false, cond, not, _&&_, _||_, and-true, and-false, or-false}
 use mathlib.Core.List.{List}
-use mathlib.Core.Logic.{inl, inr}
 use mathlib.Core.Path.{_≡_, refl, sym, ap, _∙_}
-use Prim.Native.Nat.{ℕ, _+_, _^_, _≤_, _<_}
-use native.Mathlib.Nat.{not-suc-le-zero}
+use Prim.Native.Nat.{ℕ, _+_, _^_, _<_}
 use native.Mathlib.Omega.{arith}
 use lib.Bits.{bitAnd, and-lt}
 use lib.Dec.{eqb, ltb}
-use lib.ListN.{length, getD, set, length-set}
+use lib.ListN.{length, getD, set}
 use lib.Seq.{getD-set-same, getD-set-other}
 use borrow.Author.Count.{below-more}
-use borrow.Author.Tests.{eqb-true, eq-eqb, ne-eqb, lt-ltb, ltb-true, ltb-false, not-true}
-use Rattle.meaning.specs.Below.{some, first}
+use borrow.Author.Tests.{eqb-true, eqb-false, eq-eqb, lt-ltb, ltb-true, ltb-false, not-true, not-false}
+use Rattle.meaning.specs.Below.{some}
 use Rattle.meaning.specs.Bytes.{bit}
-use Rattle.meaning.proofs.Bool.{same-test, not-both}
-use Rattle.meaning.proofs.Below.{none-intro, none-elim, first-le, first-passes, first-before}
-use Rattle.meaning.proofs.Walk.{compared}
-use Rattle.sets.proofs.Bits.{bit-zero, bit-and, same-set}
+use Rattle.meaning.proofs.Bool.{same-test, and-left, and-right}
+use Rattle.meaning.proofs.Below.{none-intro, none-elim}
+use Rattle.sets.proofs.Bits.{bit-zero, bit-and, bit-out, same-set}
+use Rattle.edges.specs.Edges.{as-asked, raised}
 
 -- All of s is in t: nothing of s is out of t.
 pub inside : (s t : ℕ) → s < 2 ^ 64 → t < 2 ^ 64 → eqb (bitAnd s t) s ≡ not (some 64 (λ k. bit s k && not (bit t k)))
@@ -42,81 +40,103 @@ inside s t h l =
     both true false e = sym e
     both false b e = refl
 
--- The walk over the members of `on` has come to t: `left` has the members from t on, t the first, and `able` those before t that pass q.
-pub record Walked (q : ℕ → Bool) (on left able t : ℕ) : Type 0 where
-  pub at : t ≡ first 64 (bit left)
-  pub rest : (j : ℕ) → t ≤ j → bit left j ≡ bit on j
-  pub done : (j : ℕ) → j < t → bit able j ≡ q j
-  pub none : (j : ℕ) → t ≤ j → bit able j ≡ false
+-- What t's row comes to in a walk: what f makes of it, where t is still left.
+abbrev pub comes-to : (ℕ → ℕ → ℕ) → ℕ → List ℕ → ℕ → ℕ
+comes-to f left rows t = cond (bit left t) (f t (getD rows t 0)) (getD rows t 0)
 
--- Only members of `on` pass q.
-module _ (q : ℕ → Bool) (on : ℕ) (out : (j : ℕ) → bit on j ≡ false → q j ≡ false) where
-  -- Before the first member nothing passes.
-  pub walk-begins : (t : ℕ) → t ≡ first 64 (bit on) → Walked q on on 0 t
-  walk-begins t e =
-      record {
-        at = e;
-        rest = λ j h. refl;
-        done = λ j h. bit-zero j ∙ sym (out j (first-before 64 (bit on) j (rw e at h)));
-        none = λ j h. bit-zero j;
-      }
+-- With nothing left a row is what it comes to.
+pub all-written : (f : ℕ → ℕ → ℕ) (left : ℕ) (rows : List ℕ) (t : ℕ) → left ≡ 0 → comes-to f left rows t ≡ getD rows t 0
+all-written f left rows t e = rw (e, bit-zero t)
 
-  module _ (left able t : ℕ) (w : Walked q on left able t) where
-    -- Past the last member all that pass are known.
-    pub walk-ends : 64 ≤ t → (j : ℕ) → bit able j ≡ (ltb j 64 && q j)
-    walk-ends h j = go (ltb j 64) refl
-      where
-        go : (b : Bool) → ltb j 64 ≡ b → bit able j ≡ (b && q j)
-        go true e = w .done j (omega (arith, ltb-true j 64 e))
-        go false e = w .none j (omega (arith, w .at, first-le 64 (bit left), ltb-false j 64 e))
+-- With nothing left a set has all that is to be kept.
+pub all-kept : (left r t : ℕ) (q : Bool) → left ≡ 0 → (bit r t || (bit left t && q)) ≡ bit r t
+all-kept left r t q e = rw (e, bit-zero t) (or-false (bit r t))
 
-    module _ (h : t < 64) where
-      -- t is a member.
-      pub walk-at : bit on t ≡ true
-      walk-at = sym (w .rest t (omega arith)) ∙ (rw (w .at) (first-passes 64 (bit left) (rw (w .at) at h)))
+-- A turn takes member k out of set a and leaves set b.
+module _ (a k b : ℕ) (rest : (j : ℕ) → bit b j ≡ (bit a j && not (eqb k j))) (has : bit a k ≡ true) where
+  -- Row k is written: what each row comes to stays the same.
+  pub one-written : (f : ℕ → ℕ → ℕ) (rows : List ℕ) (v : ℕ) → k < length rows → v ≡ f k (getD rows k 0) → (t : ℕ)
+      → comes-to f b (set rows k v) t ≡ comes-to f a rows t
+  one-written f rows v h same t = go (eqb k t) refl
+    where
+      go : (x : Bool) → eqb k t ≡ x → comes-to f b (set rows k v) t ≡ comes-to f a rows t
+      go true y = rw (← eqb-true k t y, rest k, has, eq-eqb k k refl, getD-set-same rows k v 0 h) same
+      go false y = rw (getD-set-other rows k t v 0 (λ z. eqb-false k t y (sym z)), rest t, y, and-true (bit a t))
 
-      -- t is kept if it passes, and else nothing changes.
-      pub walk-keeps : q t ≡ true → (able′ : ℕ) → ((j : ℕ) → bit able′ j ≡ (bit able j || (eqb t j && ltb t 64)))
-          → (j : ℕ) → bit able′ j ≡ (bit able j || (eqb t j && q t))
-      walk-keeps p able′ f j = f j ∙ rw (p, lt-ltb t 64 h)
+  -- Member k is kept if it passes: what is kept or still to be kept stays the same.
+  pub one-kept : (q : ℕ → Bool) (r after : ℕ) (said : Bool) → k < 64 → said ≡ q k
+      → ((j : ℕ) → bit after j ≡ (bit r j || (said && (eqb k j && ltb k 64)))) → (t : ℕ)
+      → (bit after t || (bit b t && q t)) ≡ (bit r t || (bit a t && q t))
+  one-kept q r after said h passes gains t = go (eqb k t) refl
+    where
+      go : (x : Bool) → eqb k t ≡ x → (bit after t || (bit b t && q t)) ≡ (bit r t || (bit a t && q t))
+      go true y = rw (← eqb-true k t y, gains k, rest k, has, eq-eqb k k refl, lt-ltb k 64 h, and-true said, passes) (or-false _)
+      go false y = rw (gains t, rest t, y, and-false said, or-false (bit r t), and-true (bit a t))
 
-      pub walk-drops : q t ≡ false → (j : ℕ) → bit able j ≡ (bit able j || (eqb t j && q t))
-      walk-drops p j = rw (p, and-false (eqb t j), or-false (bit able j))
+  -- Member k is taken out unless it passes: what is in and passes or is not left stays the same.
+  pub one-dropped : (q : ℕ → Bool) (r after : ℕ) (said : Bool) → said ≡ q k
+      → ((j : ℕ) → bit after j ≡ (bit r j && not (not said && eqb k j))) → (t : ℕ)
+      → (bit after t && (not (bit b t) || q t)) ≡ (bit r t && (not (bit a t) || q t))
+  one-dropped q r after said passes loses t = go (eqb k t) refl
+    where
+      here : (x y : Bool) → ((x && not (not y && true)) && true) ≡ (x && y)
+      here true true = refl
+      here true false = refl
+      here false y = refl
 
-      module _ (next t′ : ℕ) (less : (j : ℕ) → bit next j ≡ (bit left j && not (eqb t j))) (e : t′ ≡ first 64 (bit next)) where
-        -- Apart from t the members left are the same.
-        other : (j : ℕ) → ¬ (t ≡ j) → bit next j ≡ bit left j
-        other j n = less j ∙ rw (ne-eqb t j n, and-true (bit left j))
+      go : (x : Bool) → eqb k t ≡ x → (bit after t && (not (bit b t) || q t)) ≡ (bit r t && (not (bit a t) || q t))
+      go true y = rw (← eqb-true k t y, loses k, rest k, has, eq-eqb k k refl, ← passes) (here (bit r k) said)
+      go false y = rw (loses t, rest t, y, and-false (not said), and-true (bit r t), and-true (bit a t))
 
-        -- The next member comes after t.
-        pub walk-up : t < t′
-        walk-up =
-            elim (compared t t′) [
-              | inl b ↦ b
-              | inr (inl z) ↦ not-both (found (omega arith)) (less t′ ∙ rw (eq-eqb t t′ z, and-false (bit left t′)))
-              | inr (inr b) ↦ not-both (found (omega arith)) (other t′ (λ z. omega arith) ∙ first-before 64 (bit left) t′ (rw (w .at) at b))
-            ]
-          where
-            found : t′ < 64 → bit next t′ ≡ true
-            found l = rw e (first-passes 64 (bit next) (rw e at l))
+-- Where nothing is wanted all is as wanted.
+pub unasked : (truths falses word : ℕ) → not (eqb truths 0 && eqb falses 0) ≡ false → as-asked truths falses word ≡ true
+unfolding as-asked
+unasked truths falses word e =
+    let none = not-false (eqb truths 0 && eqb falses 0) e in
+    Rattle.meaning.proofs.Bool.and-true (ap not (none-intro 64 (λ k. bit truths k && not (bit word k)) (λ k h. rw (eqb-true truths 0 (and-left _ (eqb falses 0) none), bit-zero k))))
+    (ap not (none-intro 64 (λ k. bit falses k && bit word k) (λ k h. rw (eqb-true falses 0 (and-right (eqb truths 0) _ none), bit-zero k))))
 
-        -- One step on: t is kept exactly if it passes.
-        pub walk-on : (able′ : ℕ) → ((j : ℕ) → bit able′ j ≡ (bit able j || (eqb t j && q t))) → Walked q on next able′ t′
-        walk-on able′ kept =
-            record {
-              at = e;
-              rest = λ j l. other j (λ z. omega (arith, walk-up)) ∙ w .rest j (omega (arith, walk-up));
-              done = λ j l. elim (compared j t) [
-                | inl b ↦ apart j (λ z. omega arith) ∙ w .done j b
-                | inr (inl z) ↦ kept j ∙ rw (z, eq-eqb t t refl, w .none t (omega arith))
-                | inr (inr b) ↦ apart j (λ z. omega arith) ∙ w .none j (omega arith) ∙ sym (out j (lacks j b l))
-              ];
-              none = λ j l. apart j (λ z. omega (arith, walk-up)) ∙ w .none j (omega (arith, walk-up));
-            }
-          where
-            apart : (j : ℕ) → ¬ (t ≡ j) → bit able′ j ≡ bit able j
-            apart j n = kept j ∙ rw (ne-eqb t j n, or-false (bit able j))
+-- So asking only where something is wanted asks all, once nothing is left.
+pub all-asked : (before conditional left able t : ℕ) (q : Bool) → left ≡ 0 → (bit conditional t ≡ false → q ≡ true)
+    → (bit able t && (not (bit left t) || q)) ≡ (bit before t && (not (bit (bitAnd before conditional) t) || q)) → bit able t ≡ (bit before t && q)
+all-asked before conditional left able t q e free same =
+    sym (rw (e, bit-zero t) (and-true (bit able t))) ∙ same ∙ rw (bit-and before conditional t) (go (bit before t) (bit conditional t) free)
+  where
+    go : (x y : Bool) → (y ≡ false → q ≡ true) → (x && (not (x && y) || q)) ≡ (x && q)
+    go true true f = refl
+    go true false f = sym (f refl)
+    go false y f = refl
 
-            -- Between t and the next member there is none.
-            lacks : (j : ℕ) → t < j → j < t′ → bit on j ≡ false
-            lacks j b l = sym (w .rest j (omega arith)) ∙ sym (other j (λ z. omega arith)) ∙ first-before 64 (bit next) j (rw e at l)
+-- What is known of a set below 64 is all there is to know.
+pub below-64 : (f : ℕ → Bool) (r : ℕ) → r < 2 ^ 64 → ((t : ℕ) → t < 64 → bit r t ≡ f t) → (t : ℕ) → bit r t ≡ (ltb t 64 && f t)
+below-64 f r h known t = go (ltb t 64) refl
+  where
+    go : (b : Bool) → ltb t 64 ≡ b → bit r t ≡ (b && f t)
+    go true e = known t (ltb-true t 64 e)
+    go false e = bit-out r t h (ltb-false t 64 e)
+
+-- The two walks of the falling edge: over the timed that are not enabled, and over those that are.
+abbrev pub stops : ℕ → ℕ → ℕ
+stops t c = 0
+
+abbrev pub rises : ℕ → List ℕ → ℕ → ℕ → ℕ
+rises orders limit t c = raised (bit orders t) (getD limit t 0) c
+
+pub both-walks : (timed on off : ℕ) (f : ℕ → ℕ → ℕ) (before between : List ℕ) (t : ℕ) → bit off t ≡ (bit timed t && not (bit on t))
+    → getD between t 0 ≡ comes-to stops off before t
+    → comes-to f (bitAnd timed on) between t ≡ cond (bit timed t) (cond (bit on t) (f t (getD before t 0)) 0) (getD before t 0)
+both-walks timed on off f before between t e z = rw (bit-and timed on t, z, e) (go (bit timed t) (bit on t))
+  where
+    go : (x y : Bool)
+        → cond (x && y) (f t (cond (x && not y) 0 (getD before t 0))) (cond (x && not y) 0 (getD before t 0))
+        ≡ cond x (cond y (f t (getD before t 0)) 0) (getD before t 0)
+    go true true = refl
+    go true false = refl
+    go false y = refl
+
+-- One more row is filled.
+pub filled : (r : List ℕ) (p v : ℕ) (g : ℕ → ℕ) → p < length r → ((q : ℕ) → q < p → getD r q 0 ≡ g q) → v ≡ g p
+    → (q : ℕ) → q < p + 1 → getD (set r p v) q 0 ≡ g q
+filled r p v g h before here =
+    below-more (λ (q : ℕ). getD (set r p v) q 0 ≡ g q) p (λ q l. getD-set-other r p q v 0 (λ e. omega arith) ∙ before q l)
+    (getD-set-same r p v 0 h ∙ here)

@@ -2,7 +2,7 @@
 use mathlib.Core.Bool.{Bool, cond, not, _&&_, _||_}
 use mathlib.Core.List.{List}
 use mathlib.Core.Path.{_≡_}
-use Prim.Native.Nat.{ℕ, suc, _<_}
+use Prim.Native.Nat.{ℕ, suc, _≤_, _<_}
 use lib.Dec.{leb, ltb, eqb}
 use lib.ListN.{length, getD}
 use Rattle.meaning.specs.Below.{some}
@@ -37,3 +37,36 @@ abbrev pub firable-at : Intervals → List ℕ → ℕ → List ℕ → List ℕ
 firable-at x counters on truths falses word t =
     bit on t && as-asked (getD truths t 0) (getD falses t 0) word
     && timely (getD (x .sorts) t 0) (getD (x .a) t 0) (getD (x .b) t 0) (getD counters t 0)
+
+-- For each transition, by its sort, a and b: how far its counter rises, and the last count in time, where 4294967295 stands for no end. No b is
+-- so large.
+pub record Limits (x : Intervals) (limit last : List ℕ) : Type 0 where
+  pub limit-size : length limit ≡ 64
+  pub last-size : length last ≡ 64
+  pub rises-to : (t : ℕ) → t < 64 → getD limit t 0 ≡ cond (eqb (getD (x .sorts) t 0) 1) (suc (getD (x .b) t 0)) (getD (x .a) t 0)
+  pub ends-at : (t : ℕ) → t < 64 → getD last t 0 ≡ cond (eqb (getD (x .sorts) t 0) 2) 4294967295 (getD (x .b) t 0)
+  pub b-low : (t : ℕ) → t < 64 → getD (x .b) t 0 ≤ 65535
+
+-- The counter of an enabled timed transition after the falling edge, by its limit: with a reset order 1; else it rises by one if below the limit.
+unfoldable pub raised : Bool → ℕ → ℕ → ℕ
+raised order limit c = cond order 1 (cond (ltb c limit) (suc c) c)
+
+-- The counter is in time by the last count: at least a, and at most the last where there is one.
+unfoldable pub in-span : ℕ → ℕ → ℕ → Bool
+in-span a last c = leb a c && (eqb last 4294967295 || leb c last)
+
+-- By the limits: each timed transition's counter has risen if it is enabled and else is 0, and each other is as it was.
+pub record Raises (timed orders on : ℕ) (limit before after : List ℕ) : Type 0 where
+  pub size : length after ≡ 64
+  pub holds : (t : ℕ) → t < 64
+      → getD after t 0 ≡ cond (bit timed t) (cond (bit on t) (raised (bit orders t) (getD limit t 0) (getD before t 0)) 0) (getD before t 0)
+
+-- The set of those that are timed, enabled and in time.
+abbrev pub Ready : ℕ → ℕ → List ℕ → List ℕ → List ℕ → ℕ → Type 0
+Ready timed on a last counters r =
+    (t : ℕ) → bit r t ≡ ((bit timed t && bit on t) && in-span (getD a t 0) (getD last t 0) (getD counters t 0))
+
+-- The set of those that are enabled and untimed, or ready, and their conditions as wanted.
+abbrev pub Able : ℕ → ℕ → ℕ → List ℕ → List ℕ → ℕ → ℕ → Type 0
+Able on timed ready truths falses word r =
+    (t : ℕ) → bit r t ≡ (ltb t 64 && (((bit on t && not (bit timed t)) || bit ready t) && as-asked (getD truths t 0) (getD falses t 0) word))

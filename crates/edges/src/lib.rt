@@ -1,59 +1,125 @@
 // The two edges of a cycle: the counters after the falling edge, and the set of the transitions that are firable at the rising edge.
 ghost use mathlib.Core.Path.{_≡_};
-ghost use mathlib.Core.Bool.{_&&_};
-ghost use Prim.Native.Nat.{ℕ};
-ghost use lib.Dec.{ltb};
-ghost use lib.ListN.{length};
+ghost use mathlib.Core.Bool.{cond, not, _&&_};
+ghost use Prim.Native.Nat.{ℕ, suc, _≤_, _<_};
+ghost use lib.Dec.{eqb};
+ghost use lib.ListN.{length, getD, replicate};
 ghost use Rattle.meaning.specs.Bytes.{bit};
-ghost use Rattle.edges.specs.Edges.{fallen, Falls, timely, as-asked, firable-at};
+ghost use Rattle.net.specs.Rows.{Blank-from};
+ghost use Rattle.edges.specs.Edges.{as-asked, raised, in-span, Limits, Raises, Ready, Able};
 
-// The counter of a transition of this sort, a and b after the falling edge: enabled or not, with a reset order or not.
-fn fallen(sort: u8, a: u16, b: u16, on: bool, order: bool, c: u32) -> u32
-    ensures { λ r. ⌜ r ≡ fallen sort a b on order c ⌝ }
+// How far a counter of this sort, a and b rises: of sort 1 to b + 1, of any other to a.
+fn limit_of(sort: u8, a: u16, b: u16) -> u32
+    ensures { λ r. ⌜ r ≡ cond (eqb sort 1) (suc b) a ⌝ }
 {
-    if sort == 0 {
-        return c;
-    }
-    if !on {
-        return 0;
-    }
-    if order {
-        return 1;
-    }
-    if sort == 1 {
-        if c <= b as u32 { c + 1 } else { c }
-    } else {
-        if c < a as u32 { c + 1 } else { c }
+    if sort == 1 { b as u32 + 1 } else { a as u32 }
+}
+
+// The last count in time: b, and of sort 2 the largest number, which stands for no end.
+fn last_of(sort: u8, b: u16) -> u32
+    ensures { λ r. ⌜ r ≡ cond (eqb sort 2) 4294967295 b ⌝ }
+    ensures { λ _. ⌜ b ≤ 65535 ⌝ }
+{
+    if sort == 2 { 4294967295 } else { b as u32 }
+}
+
+// For each transition how far its counter rises, and the last count in time. From n on every sort, a and b is 0; the rows are lent empty.
+pub fn limits(
+    limit: &mut [u32; 64],
+    last: &mut [u32; 64],
+    sorts: &[u8; 64],
+    a: &[u16; 64],
+    b: &[u16; 64],
+    n: usize,
+)
+    requires { ⌜ (now limit ≡ replicate 64 0) × (now last ≡ replicate 64 0) × (n ≤ 64) ⌝ }
+    requires { ⌜ ((t : ℕ) → n ≤ t → t < 64 → (getD (now sorts) t 0 ≡ 0) × (getD (now a) t 0 ≡ 0) × (getD (now b) t 0 ≡ 0)) ⌝ }
+    ensures { λ _. ⌜ Limits (record { sorts = now (sorts .entry); a = now (a .entry); b = now (b .entry) }) (now (limit .exit)) (now (last .exit)) ⌝ }
+{
+    let mut t = 0;
+    while t < n {
+        limit[t] = limit_of(sorts[t], a[t], b[t]);
+        last[t] = last_of(sorts[t], b[t]);
+        t += 1;
     }
 }
 
-// The counters of the timed transitions go through the falling edge; those of the others stay.
+// Is any condition wanted true or wanted false?
+fn wanted(truths: u64, falses: u64) -> bool
+    ensures { λ r. ⌜ r ≡ not (eqb truths 0 && eqb falses 0) ⌝ }
+{
+    if truths == 0 { falses != 0 } else { true }
+}
+
+// The transitions that have conditions. From n on none has.
+pub fn conditional(truths: &[u64], falses: &[u64], n: usize) -> u64
+    requires { ⌜ (64 ≤ length (now truths)) × (64 ≤ length (now falses)) ⌝ }
+    requires { ⌜ Blank-from 64 n (now truths) × Blank-from 64 n (now falses) ⌝ }
+    ensures { λ r. ⌜ ((t : ℕ) → t < 64 → bit r t ≡ not (eqb (getD (now (truths .entry)) t 0) 0 && eqb (getD (now (falses .entry)) t 0) 0)) ⌝ }
+{
+    let mut r = 0u64;
+    let mut t = 0;
+    while t < n {
+        if wanted(truths[t], falses[t]) {
+            r = sets::with(r, t);
+        }
+        t += 1;
+    }
+    r
+}
+
+// The counter of an enabled transition after the falling edge: 1 with a reset order, else one more if below its limit.
+fn raised(c: u32, order: bool, limit: u32) -> u32
+    ensures { λ r. ⌜ r ≡ raised order limit c ⌝ }
+{
+    if order {
+        return 1;
+    }
+    if c < limit { c + 1 } else { c }
+}
+
+// Is a count in time: at least a and at most the last?
+fn in_span(a: u16, last: u32, c: u32) -> bool
+    ensures { λ r. ⌜ r ≡ in-span a last c ⌝ }
+{
+    if c < a as u32 {
+        return false;
+    }
+    c <= last
+}
+
+// The counters of the timed transitions go through the falling edge; those of the others stay. The answer is who is timed, enabled and in time.
 pub fn fall(
     counters: &mut [u32; 64],
     timed: u64,
     orders: u64,
     on: u64,
-    sorts: &[u8; 64],
     a: &[u16; 64],
-    b: &[u16; 64],
-)
+    limit: &[u32; 64],
+    last: &[u32; 64],
+) -> u64
     requires { ⌜ length (now counters) ≡ 64 ⌝ }
-    ensures { λ _. ⌜ Falls timed (record { sorts = now (sorts .entry); a = now (a .entry); b = now (b .entry) }) orders on (now (counters .entry)) (now (counters .exit)) ⌝ }
+    ensures { λ _. ⌜ Raises timed orders on (now (limit .entry)) (now (counters .entry)) (now (counters .exit)) ⌝ }
+    ensures { λ r. ⌜ Ready timed on (now (a .entry)) (now (last .entry)) (now (counters .exit)) r ⌝ }
 {
-    let mut left = timed;
-    let mut t = sets::lowest(left);
-    while t < 64 {
-        counters[t] = fallen(
-            sorts[t],
-            a[t],
-            b[t],
-            sets::has(on, t),
-            sets::has(orders, t),
-            counters[t],
-        );
-        left = sets::rest(left);
-        t = sets::lowest(left);
+    let mut off = sets::less(timed, on);
+    while off != 0 {
+        let t = sets::lowest(off);
+        counters[t] = 0;
+        off = sets::rest(off);
     }
+    let mut ready = 0u64;
+    let mut left = timed & on;
+    while left != 0 {
+        let t = sets::lowest(left);
+        let c = raised(counters[t], sets::has(orders, t), limit[t]);
+        counters[t] = c;
+        if in_span(a[t], last[t], c) {
+            ready = sets::with(ready, t);
+        }
+        left = sets::rest(left);
+    }
+    ready
 }
 
 // Are the conditions wanted true all in the word, and those wanted false all out of it?
@@ -67,46 +133,27 @@ fn asked(truths: u64, falses: u64, word: u64) -> bool
     }
 }
 
-// Is a counter in time for this sort, a and b?
-fn timely(sort: u8, a: u16, b: u16, c: u32) -> bool
-    ensures { λ r. ⌜ r ≡ timely sort a b c ⌝ }
-{
-    if sort == 0 {
-        return true;
-    }
-    if c < a as u32 {
-        return false;
-    }
-    if sort == 2 {
-        return true;
-    }
-    c <= b as u32
-}
-
-// The enabled transitions whose conditions are as wanted and whose counters are in time, taken in order of their numbers.
+// The firable: enabled and untimed, or ready, and the conditions as wanted, which are asked only where there are any.
 pub fn firable(
     on: u64,
-    counters: &[u32; 64],
-    sorts: &[u8; 64],
-    a: &[u16; 64],
-    b: &[u16; 64],
+    timed: u64,
+    ready: u64,
+    conditional: u64,
     truths: &[u64; 128],
     falses: &[u64; 128],
     word: u64,
 ) -> u64
-    ensures { λ r. ⌜ ((t : ℕ) → bit r t ≡ (ltb t 64 && firable-at (record { sorts = now (sorts .entry); a = now (a .entry); b = now (b .entry) }) (now (counters .entry)) on (now (truths .entry)) (now (falses .entry)) word t)) ⌝ }
+    requires { ⌜ ((t : ℕ) → t < 64 → bit conditional t ≡ not (eqb (getD (now truths) t 0) 0 && eqb (getD (now falses) t 0) 0)) ⌝ }
+    ensures { λ r. ⌜ Able on timed ready (now (truths .entry)) (now (falses .entry)) word r ⌝ }
 {
-    let mut left = on;
-    let mut able = 0u64;
-    let mut t = sets::lowest(left);
-    while t < 64 {
-        if asked(truths[t], falses[t], word) {
-            if timely(sorts[t], a[t], b[t], counters[t]) {
-                able = sets::with(able, t);
-            }
+    let mut able = sets::union(sets::less(on, timed), ready);
+    let mut left = able & conditional;
+    while left != 0 {
+        let t = sets::lowest(left);
+        if !asked(truths[t], falses[t], word) {
+            able = sets::without(able, t);
         }
         left = sets::rest(left);
-        t = sets::lowest(left);
     }
     able
 }

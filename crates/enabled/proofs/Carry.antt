@@ -13,18 +13,19 @@ use Rattle.meaning.specs.Bytes.{bit}
 use Rattle.meaning.specs.Table.{Table, is, post}
 use Rattle.meaning.specs.Defined.{faulty}
 use Rattle.meaning.specs.Cycle.{stops, enabled}
-use Rattle.meaning.proofs.Bool.{and-left, and-right, and-true, same-test}
+use Rattle.meaning.proofs.Bool.{and-left, and-right, and-true, not-both, same-test}
 use Rattle.meaning.proofs.Below.{every-elim, some-intro, some-elim, some-same}
 use Rattle.meaning.proofs.Shows.{Shows}
 use Rattle.meaning.proofs.Faults.{faultless}
-use Rattle.net.specs.Rows.{Gathered, Weights, Sorts, input, cell}
+use Rattle.sets.proofs.Bits.{bit-zero, bits-bit}
+use Rattle.net.specs.Rows.{Weights, Sorts, input, cell}
 use Rattle.net.proofs.Carry.{latest-is}
 use Rattle.table.specs.Index.{row}
 use Rattle.table.proofs.Carry.{Clean}
 use Rattle.table.proofs.Rows.{kind-of, Spot, spot, row-test, beq-true}
 use Rattle.enabled.specs.declared.Inputs.{Inputs}
-use Rattle.enabled.specs.declared.Outputs.{Outputs}
-use Rattle.enabled.specs.Inputs.{Inputs-of, Outputs-of, in-words, stops-at, enabled-by}
+use Rattle.enabled.specs.Held.{Empty-from, Holds-back, held-by}
+use Rattle.enabled.specs.Inputs.{Inputs-of, in-words, stops-at, enabled-by}
 
 -- At most is not above.
 at-most : (a b : ℕ) → leb a b ≡ not (ltb b a)
@@ -124,8 +125,8 @@ module _ (tb : Table) (w s : List (List ℕ)) (index : List ℕ) (x : Inputs) (g
       shown r l = faultless tb r (rw (clean .fine r l)) .0
 
   -- So has place p in t's words.
-  words-same : (p : ℕ) → p < 128 → in-words (getD (x .low) t 0) (getD (x .high) t 0) p ≡ some (tb .records) (from-to tb p t)
-  words-same p h = go (ltb p 64) refl ∙ row-same p h
+  pub in-row : (p : ℕ) → p < 128 → in-words (getD (x .low) t 0) (getD (x .high) t 0) p ≡ bit (getD index (192 + p) 0) t
+  in-row p h = go (ltb p 64) refl
     where
       go : (b : Bool) → ltb p 64 ≡ b → cond b (bit (getD (x .low) t 0) p) (bit (getD (x .high) t 0) (p - 64)) ≡ bit (getD index (192 + p) 0) t
       go true e = gx .low t p ht (ltb-true p 64 e)
@@ -133,14 +134,18 @@ module _ (tb : Table) (w s : List (List ℕ)) (index : List ℕ) (x : Inputs) (g
           let past : 192 + (64 + (p - 64)) ≡ 192 + p = omega (arith, ltb-false p 64 e) in
           gx .high t (p - 64) ht (omega arith) ∙ rw past
 
-  -- Who takes from a place has the place in its words.
-  pub taker-near : (takers : List ℕ) → Gathered tb 3 0 takers → (p : ℕ) → p < 128 → bit (getD takers p 0) t ≡ true
-      → in-words (getD (x .low) t 0) (getD (x .high) t 0) p ≡ true
-  taker-near takers g p h e =
-      let r = some-elim (tb .records) _ (sym (g .holds p t h ht) ∙ e) in
-      let q = each (is tb 3 (r .0)) (eqb (tb .sort (r .0)) 0) (eqb (tb .one (r .0)) p) (eqb (tb .two (r .0)) t) (r .2) in
-      let other = ne-eqb (tb .sort (r .0)) 3 (λ z. omega (arith, eqb-true (tb .sort (r .0)) 0 (q .1))) in
-      words-same p h ∙ some-intro (tb .records) (from-to tb p t) (r .0) (r .1) (rw (q .0, other, q .2, q .3))
+  words-same : (p : ℕ) → p < 128 → in-words (getD (x .low) t 0) (getD (x .high) t 0) p ≡ some (tb .records) (from-to tb p t)
+  words-same p h = in-row p h ∙ row-same p h
+
+  -- Where row 192 + p has t, the cell is an arc's: it has a weight, and the sort of an input arc.
+  pub arc-cell : (p : ℕ) → p < 128 → bit (getD index (192 + p) 0) t ≡ true → (1 ≤ cell w p t) × (cell s p t < 3)
+  arc-cell p h e =
+      let r = some-elim (tb .records) (from-to tb p t) (sym (row-same p h) ∙ e) in
+      let q = each (is tb 3 (r .0)) (not (post tb (r .0))) (eqb (tb .one (r .0)) p) (eqb (tb .two (r .0)) t) (r .2) in
+      let a = arc-of (r .0) (r .1) (q .0) (q .1) (q .3) in
+      let c = cell-of (r .0) a in
+      let here : tb .one (r .0) ≡ p = eqb-true (tb .one (r .0)) p (q .2) in
+      rw (sym here, c .0, c .1) (arcs (r .0) (r .1) (a .1) .2, a .2)
 
   -- So a test of the places in t's words is a test of t's input arcs.
   pub by-arc : (f g : ℕ → Bool) → ((r : ℕ) → Arc tb t r → f (tb .one r) ≡ g r) → ((r : ℕ) → r < tb .records → g r ≡ true → Arc tb t r)
@@ -183,22 +188,32 @@ module _ (tb : Table) (w s : List (List ℕ)) (index : List ℕ) (x : Inputs) (g
       let q = each (is tb 3 r) (not (post tb r)) (eqb (tb .two r) t) _ e in
       arc-of r h (q .0) (q .1) (q .2)))
 
--- The words of the post arcs have place p just if a post arc comes to it from t.
-pub outputs-same : (tb : Table) (index : List ℕ) (clean : Clean tb index) (x : Outputs) → Outputs-of index x → (t p : ℕ) → t < 64 → p < 128
-    → in-words (getD (x .low) t 0) (getD (x .high) t 0) p ≡ some (tb .records) (λ r. post tb r && eqb (tb .one r) p && eqb (tb .two r) t)
-unfolding row faulty
-outputs-same tb index clean x g t p ht h = go (ltb p 64) refl ∙ row-same
-  where
-    row-same : bit (getD index (320 + p) 0) t ≡ some (tb .records) (λ r. post tb r && eqb (tb .one r) p && eqb (tb .two r) t)
-    row-same =
-        clean .index .holds (320 + p) t (omega arith) ht
-        ∙ some-same (tb .records) _ _
-        (λ r l.
-        let z = spot (faultless tb r (rw (clean .fine r l)) .0) in
-        ap (λ (b : Bool). b && eqb (tb .two r) t) (row-test z 3 p (omega arith) h ∙ ap (λ (b : Bool). b && eqb (tb .one r) p) (sym (z .post-is))))
+  -- Whom no place holds back, of the first n places, all others having no arc, is enabled.
+  pub held-same : (n : ℕ) → Empty-from index n → (m held : List ℕ) → Holds-back index w s m held
+      → not (some n (λ p. bit (getD held p 0) t)) ≡ enabled-by m w s (getD (x .low) t 0) (getD (x .high) t 0) t
+  unfolding enabled-by held-by
+  held-same n none m held back = ap not (same-test (some n here) (some 128 by-words) there (λ e. back-there (some-elim 128 by-words e)))
+    where
+      here : ℕ → Bool
+      here p = bit (getD held p 0) t
 
-    go : (b : Bool) → ltb p 64 ≡ b → cond b (bit (getD (x .low) t 0) p) (bit (getD (x .high) t 0) (p - 64)) ≡ bit (getD index (320 + p) 0) t
-    go true e = g .low t p ht (ltb-true p 64 e)
-    go false e =
-        let past : 320 + (64 + (p - 64)) ≡ 320 + p = omega (arith, ltb-false p 64 e) in
-        g .high t (p - 64) ht (omega arith) ∙ rw past
+      by-words : ℕ → Bool
+      by-words p = in-words (getD (x .low) t 0) (getD (x .high) t 0) p && stops-at m w s t p
+
+      one : (p : ℕ) → p < 128 → here p ≡ by-words p
+      one p h = ap (λ (k : ℕ). bit k t) (back .holds p h) ∙ bits-bit _ t ht ∙ ap (λ (b : Bool). b && stops-at m w s t p) (sym (in-row p h))
+
+      there : some n here ≡ true → some 128 by-words ≡ true
+      there e =
+          let p = some-elim n here e in
+          let low : p .0 < 128 = omega (arith, p .1, none .within) in
+          some-intro 128 by-words (p .0) low (sym (one (p .0) low) ∙ p .2)
+
+      back-there : (p : ℕ) × (p < 128) × (by-words p ≡ true) → some n here ≡ true
+      back-there (p, h, e) = go (ltb p n) refl
+        where
+          go : (b : Bool) → ltb p n ≡ b → some n here ≡ true
+          go true l = some-intro n here p (ltb-true p n l) (one p h ∙ e)
+          go false l =
+              let empty = none .empty p (ltb-false p n l) h in
+              not-both (and-left (in-words (getD (x .low) t 0) (getD (x .high) t 0) p) _ e) (in-row p h ∙ rw (empty, bit-zero t))

@@ -2,3 +2,4 @@
 pub mod Walk
 pub mod Words
 pub mod Carry
+pub mod Held

@@ -2,12 +2,12 @@
 use mathlib.Core.Bool.{Bool, true, false, not, _&&_, _||_, and-true, and-false, or-false}
 use mathlib.Core.List.{List}
 use mathlib.Core.Path.{_≡_, refl, sym, _∙_}
-use Prim.Native.Nat.{ℕ, _+_, _^_, _<_}
+use Prim.Native.Nat.{ℕ, _+_, _^_, _≤_, _<_}
 use native.Mathlib.Omega.{arith}
 use lib.Dec.{eqb, ltb}
 use lib.ListN.{getD, replicate, getD-replicate}
 use borrow.Author.Tests.{eqb-true, eq-eqb, lt-ltb, le-ltb, ltb-false}
-use Rattle.meaning.specs.Below.{some, first}
+use Rattle.meaning.specs.Below.{some}
 use Rattle.meaning.specs.Bytes.{bit}
 use Rattle.meaning.proofs.Below.{some-intro, none-intro, some-same}
 use Rattle.sets.proofs.Bits.{bit-zero, bit-out}
@@ -39,13 +39,8 @@ module _ (a k b : ℕ) (rest : (j : ℕ) → bit b j ≡ (bit a j && not (eqb k 
 pub none-kept : (known t : ℕ) (x : Bool) → (bit 0 t || (bit known t && x)) ≡ (bit known t && x)
 none-kept known t x = rw (bit-zero t)
 
-pub all-kept : (f : ℕ → Bool) (known left r t : ℕ) → known < 2 ^ 64 → left ≡ 0 → (bit r t || (bit left t && f t)) ≡ (bit known t && f t)
-    → bit r t ≡ (ltb t 64 && (bit known t && f t))
-all-kept f known left r t h e q = sym (rw (e, bit-zero t) (or-false (bit r t))) ∙ q ∙ go (ltb t 64) refl
-  where
-    go : (x : Bool) → ltb t 64 ≡ x → (bit known t && f t) ≡ (x && (bit known t && f t))
-    go true l = refl
-    go false l = rw (bit-out known t h (ltb-false t 64 l))
+pub all-in : (f : ℕ → Bool) (known left r t : ℕ) → left ≡ 0 → (bit r t || (bit left t && f t)) ≡ (bit known t && f t) → bit r t ≡ (bit known t && f t)
+all-in f known left r t e q = sym (rw (e, bit-zero t) (or-false (bit r t))) ∙ q
 
 -- A member that passes the test is an answer, and the empty word has none.
 pub found : (a k : ℕ) (f : ℕ → Bool) → k < 64 → bit a k ≡ true → f k ≡ true → some 64 (λ p. bit a p && f p) ≡ true
@@ -65,3 +60,11 @@ pub one-more : (index words after : List ℕ) (from p : ℕ) → p < 64
     → (t q : ℕ) → t < 64 → q < 64 → bit (getD after t 0) q ≡ (ltb q (p + 1) && bit (getD index (from + q) 0) t)
 one-more index words after from p h before s t q ht hq =
     next-number (λ j. bit (getD index (from + j) 0) t) q p h refl (s .holds t q ht) (before t q ht hq)
+
+-- Where nothing from n on passes, what passes is below n.
+pub below-end : (n : ℕ) (f : ℕ → Bool) (t : ℕ) → (n ≤ t → f t ≡ false) → (ltb t n && f t) ≡ f t
+below-end n f t none = go (ltb t n) refl
+  where
+    go : (b : Bool) → ltb t n ≡ b → (b && f t) ≡ f t
+    go true e = refl
+    go false e = sym (none (ltb-false t n e))

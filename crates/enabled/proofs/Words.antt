@@ -1,6 +1,5 @@
 -- The places of two words are the 128 places: those of the low word come first.
-use mathlib.Core.Bool.{Bool, true, false, not, _&&_, _||_, or-assoc, or-false}
-use mathlib.Core.List.{List}
+use mathlib.Core.Bool.{Bool, _&&_, _||_, or-assoc, or-false}
 use mathlib.Core.Path.{_≡_, sym, ap₂, _∙_}
 use Prim.Native.Nat.{ℕ, zero, suc, _+_, _-_, _≤_, _<_}
 use native.Mathlib.Nat.{add-zero, add-suc, zero-add}
@@ -10,7 +9,7 @@ use borrow.Author.Tests.{lt-ltb, le-ltb}
 use Rattle.meaning.specs.Below.{some}
 use Rattle.meaning.specs.Bytes.{bit}
 use Rattle.meaning.proofs.Below.{some-same}
-use Rattle.enabled.specs.Inputs.{in-words, stops-at, enabled-by}
+use Rattle.enabled.specs.Inputs.{in-words}
 
 -- Some number below m + n is some number below m, or m and some number below n.
 some-split : (m n : ℕ) (p : ℕ → Bool) → some (m + n) p ≡ (some m p || some n (λ k. p (m + k)))
@@ -28,18 +27,3 @@ by-words low high f =
     (λ p h.
     let past : 64 + p - 64 ≡ p = omega arith in
     rw (le-ltb (64 + p) 64 (omega arith), past)))
-
-module _ (m : List ℕ) (w s : List (List ℕ)) (low high t : ℕ) where
-  -- Where t is no transition the answer is no.
-  pub no-transition : 64 ≤ t → false ≡ (ltb t 64 && enabled-by m w s low high t)
-  no-transition h = rw (le-ltb t 64 h)
-
-  -- Else t is enabled exactly if nothing of either word stops it.
-  module _ (h : t < 64) (a : Bool) (in-low : a ≡ some 64 (λ p. bit low p && stops-at m w s t (0 + p))) where
-    pub by-low : a ≡ true → false ≡ (ltb t 64 && enabled-by m w s low high t)
-    unfolding enabled-by
-    by-low e = rw (lt-ltb t 64 h, by-words low high (stops-at m w s t), ← in-low, e)
-
-    pub by-high : a ≡ false → (b : Bool) → b ≡ some 64 (λ p. bit high p && stops-at m w s t (64 + p)) → not b ≡ (ltb t 64 && enabled-by m w s low high t)
-    unfolding enabled-by
-    by-high e b in-high = rw (lt-ltb t 64 h, by-words low high (stops-at m w s t), ← in-low, e, ← in-high)

@@ -9,17 +9,11 @@ use Rattle.meaning.specs.Below.{some}
 use Rattle.meaning.specs.Bytes.{bit}
 use Rattle.net.specs.Rows.{cell}
 use Rattle.enabled.specs.declared.Inputs.{Inputs}
-use Rattle.enabled.specs.declared.Outputs.{Outputs}
 
 -- Bit p of a transition's two words: row 192 + p of the index has the transition.
 pub record Inputs-of (index : List ℕ) (x : Inputs) : Type 0 where
   pub low : (t p : ℕ) → t < 64 → p < 64 → bit (getD (x .low) t 0) p ≡ bit (getD index (192 + p) 0) t
   pub high : (t p : ℕ) → t < 64 → p < 64 → bit (getD (x .high) t 0) p ≡ bit (getD index (192 + (64 + p)) 0) t
-
--- The same of the post arcs, which rows 320 + p hold.
-pub record Outputs-of (index : List ℕ) (x : Outputs) : Type 0 where
-  pub low : (t p : ℕ) → t < 64 → p < 64 → bit (getD (x .low) t 0) p ≡ bit (getD index (320 + p) 0) t
-  pub high : (t p : ℕ) → t < 64 → p < 64 → bit (getD (x .high) t 0) p ≡ bit (getD index (320 + (64 + p)) 0) t
 
 -- What is added: place p to the word of each transition of the row.
 pub record Spread (words : List ℕ) (row p : ℕ) (after : List ℕ) : Type 0 where

@@ -1,2 +1,3 @@
 -- When the arrays enable a transition.
 pub mod Inputs
+pub mod Held

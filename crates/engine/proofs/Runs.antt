@@ -23,26 +23,29 @@ use Rattle.image.specs.Fit.{wrong-by}
 use Rattle.image.proofs.Carry.{first-wrong-same}
 use Rattle.course.specs.Course.{Read, Ready, Ends}
 use Rattle.course.specs.declared.Ended.{Ended}
-use Rattle.engine.specs.declared.Finding.{Finding}
+use Rattle.engine.specs.declared.Judged.{Judged}
 use Rattle.engine.specs.Said.{Judges, lent-checks}
 use Rattle.engine.proofs.Starts.{refused-too, accepted-if}
 use Rattle.engine.proofs.Lent.{lent-same, long-is, fits-is, few-is, room-is}
 
 -- The table is accepted: its rows are read.
-module _ (bs : List ℕ) (j : Finding) (index higher : List ℕ) (w s : List (List ℕ)) (takers truths falses : List ℕ)
+module _ (bs : List ℕ) (j : Judged) (index higher : List ℕ) (w s : List (List ℕ)) (takers truths falses : List ℕ)
     (judged : Judges bs j index higher w s takers truths falses) (zero-is : j .number ≡ 0) (x : Intervals)
     (times : Times-of (table bs) x) where
   table-fine : check bs ≡ accepted 0
   table-fine = accepted-if bs (ap (λ (a : Answer). a .number) (sym (judged .answer)) ∙ zero-is)
 
-  pub read : Read bs x index higher w s takers truths falses
+  pub read : Read bs x index higher w s takers truths falses (j .reach)
   read =
       let filled = judged .filled zero-is in
       record {
         sound = table-fine;
         index-holds = judged .indexed zero-is;
+        reaches = judged .reaches zero-is;
+        below = judged .below zero-is;
         times = times;
         higher-is = judged .higher-is zero-is;
+        bare = judged .bare zero-is;
         weights = filled .weights;
         sorts = filled .sorts;
         takers-hold = filled .takers-hold;
@@ -71,7 +74,7 @@ module _ (bs img ws report : List ℕ) where
   refused-by-table e n =
       refuses (in-order ∙ refused-too (table-checks bs) behind (λ z. n (ap (λ (b : Answer). b .number) e ∙ z)) ∙ sym e) n
 
-  module _ (j : Finding) (index higher : List ℕ) (w s : List (List ℕ)) (takers truths falses : List ℕ)
+  module _ (j : Judged) (index higher : List ℕ) (w s : List (List ℕ)) (takers truths falses : List ℕ)
       (judged : Judges bs j index higher w s takers truths falses) (zero-is : j .number ≡ 0) (x : Intervals)
       (times : Times-of (table bs) x) where
     accepts : check bs ≡ accepted 0

@@ -26,7 +26,8 @@ use Rattle.meaning.proofs.Faults.{faultless}
 use Rattle.meaning.proofs.Rows.{transition-decides, conflict-decides}
 use Rattle.meaning.proofs.Tables.{arc-transition}
 use Rattle.table.specs.declared.Pass.{Pass}
-use Rattle.table.specs.Index.{Scanned, names-unknown-at, none-of, lone}
+use Rattle.table.proofs.Reach.{Below, below-of, reaches-of}
+use Rattle.table.specs.Index.{Scanned, Reaches, names-unknown-at, none-of, lone}
 use Rattle.table.proofs.Carry.{Clean, clean-of, unknown-same, none-same, lone-same, written-bit}
 use Rattle.net.specs.Rows.{Conflicts}
 use Rattle.net.specs.Pass.{Filled}
@@ -35,7 +36,7 @@ use Rattle.priority.specs.Closed.{Closed}
 use Rattle.priority.proofs.Carry.{above-bit, circle-same}
 use Rattle.pairs.specs.Settled.{loose}
 use Rattle.pairs.proofs.Carry.{Say, least-pair, no-pair}
-use Rattle.engine.specs.declared.Finding.{Finding}
+use Rattle.engine.specs.declared.Judged.{Judged}
 use Rattle.engine.specs.Said.{Judges}
 use Rattle.engine.proofs.Stages.{answer-2, answer-5, answer-6, answer-7, answer-8, answer-9, answer-0}
 
@@ -47,10 +48,18 @@ shown-wanted : {o t s f x : ℕ} → Shown 4 o t s f x → (o ≤ 63) × (t ≤ 
 shown-wanted (Shown.condition a b c) = (a, b, c)
 
 -- A refusal says nothing of the rows.
-pub refusal : (bs : List ℕ) (j : Finding) (index higher : List ℕ) (w s : List (List ℕ)) (takers truths falses : List ℕ) → 0 < j .number
+pub refusal : (bs : List ℕ) (j : Judged) (index higher : List ℕ) (w s : List (List ℕ)) (takers truths falses : List ℕ) → 0 < j .number
     → refused (j .number) (j .at) ≡ check bs → Judges bs j index higher w s takers truths falses
 refusal bs j index higher w s takers truths falses l e =
-    record { answer = e; indexed = λ z. absurd (omega arith); higher-is = λ z. absurd (omega arith); filled = λ z. absurd (omega arith) }
+    record {
+      answer = e;
+      indexed = λ z. absurd (omega arith);
+      reaches = λ z. absurd (omega arith);
+      below = λ z. absurd (omega arith);
+      higher-is = λ z. absurd (omega arith);
+      bare = λ z. absurd (omega arith);
+      filled = λ z. absurd (omega arith);
+    }
 
 -- A search that stays below its end and one that reaches it.
 pub reached : (n : ℕ) (p : ℕ → Bool) {k : ℕ} → k ≡ first n p → n ≤ k → first n p ≡ n
@@ -74,6 +83,13 @@ module _ (bs : List ℕ) (right : bad-length bs ≡ false) (s : Pass) (index : L
 
     pub clean : Clean (table bs) index
     clean = clean-of (table bs) s index scanned (scanned .number ∙ rw (le-ltb (s .at) (table bs .records) whole))
+
+    -- No number in the records is at the reach or past it, so the index goes no further.
+    pub all-below : Below (table bs) (s .reach)
+    all-below = below-of scanned whole
+
+    pub reaching : Reaches index (s .reach)
+    reaching = reaches-of scanned (scanned .at ∙ no-fault) clean
 
     -- What a record without a fault shows.
     sound : (r : ℕ) → r < table bs .records → Shows (table bs) r × (twice (table bs) r ≡ false)

@@ -26,6 +26,13 @@ struct Finding {
     at: usize,
 }
 
+// What is found of a table: an answer, and one more than the highest number in its records, past which its rows are empty.
+struct Judged {
+    number: usize,
+    at: usize,
+    reach: usize,
+}
+
 // Answers 2 to 9 of a table whose length is right, one stage after the other. The index, the rows of the closed priority and those of the
 // net are lent empty, and filled on the way.
 fn judge(
@@ -37,61 +44,73 @@ fn judge(
     takers: &mut [u64; 128],
     truths: &mut [u64; 128],
     falses: &mut [u64; 128],
-) -> Finding
+) -> Judged
     requires { ⌜ bad-length (now t) ≡ false ⌝ }
     requires { ⌜ Blank (now w) (now s) (now takers) (now truths) (now falses) ⌝ }
     requires { ⌜ now index ≡ replicate 768 0 ⌝ }
-    requires { ⌜ length (now above) ≡ 64 ⌝ }
+    requires { ⌜ now above ≡ replicate 64 0 ⌝ }
     ensures { λ j. ⌜ Judges (now (t .entry)) j (now (index .exit)) (now (above .exit)) (now (w .exit)) (now (s .exit)) (now (takers .exit)) (now (truths .exit)) (now (falses .exit)) ⌝ }
 {
     let n = t.len() / 8;
     let pass = table::scan(t, index);
     let at = pass.at;
+    let reach = pass.reach;
     if at < n {
-        return Finding {
+        return Judged {
             number: records::wide(pass.number),
             at,
+            reach,
         };
     }
     let unknown = net::fill(t, index, w, s, takers, truths, falses);
     if unknown < n {
-        return Finding {
+        return Judged {
             number: 5,
             at: unknown,
+            reach,
         };
     }
-    let missing = table::first_none(index);
+    let missing = table::first_none(index, reach);
     if missing < 2 {
-        return Finding {
+        return Judged {
             number: 6,
             at: missing,
+            reach,
         };
     }
-    let lone = table::first_lone(index);
+    let lone = table::first_lone(index, reach);
     if lone < 192 {
-        return Finding {
+        return Judged {
             number: 7,
             at: lone,
+            reach,
         };
     }
-    priority::close(index, above);
-    let circle = priority::circle(above);
+    let most = table::transitions(reach);
+    priority::close(index, above, most);
+    let circle = priority::circle(above, most);
     if circle < 64 {
-        return Finding {
+        return Judged {
             number: 8,
             at: circle,
+            reach,
         };
     }
     let mut conflicts = [0u64; 64];
-    net::conflicts(takers, &mut conflicts);
-    let pair = pairs::clash(&conflicts, above, truths, falses, w, s);
+    net::conflicts(takers, &mut conflicts, reach);
+    let pair = pairs::clash(&conflicts, above, truths, falses, w, s, most);
     if pair < 4096 {
-        return Finding {
+        return Judged {
             number: 9,
             at: pair,
+            reach,
         };
     }
-    Finding { number: 0, at: 0 }
+    Judged {
+        number: 0,
+        at: 0,
+        reach,
+    }
 }
 
 // check: answers 1 to 9 in the page's order, or accepted.
@@ -305,6 +324,7 @@ pub fn run(t: &[u8], image: &mut [u8], words: &[u8], report: &mut [u8]) -> Answe
         &takers,
         &truths,
         &falses,
+        judged.reach,
     );
     Answer {
         number: e.number,

@@ -1,15 +1,15 @@
 -- From the rows to the meaning: what the members above a transition take by the rows is what they withdraw by the table, so a set that fires by the
 -- rows meets definition 6, and only the fired set does.
-use mathlib.Core.Bool.{Bool, true, false, cond, _&&_}
+use mathlib.Core.Bool.{Bool, true, false, cond, not, _&&_}
 use mathlib.Core.List.{List, [], _∷_}
 use mathlib.Core.Path.{_≡_, refl, sym, ap, _∙_}
 use Prim.Native.Nat.{ℕ, zero, suc, _-_, _^_, _<_}
 use native.Mathlib.Nat.{not-suc-le-zero, le-of-suc-le-suc}
 use native.Mathlib.Omega.{arith}
 use lib.Bits.{bitAnd}
-use lib.Dec.{eqb, ltb}
+use lib.Dec.{eqb, leb, ltb}
 use lib.ListN.{getD}
-use borrow.Author.Tests.{eqb-true, ltb-true, ltb-false}
+use borrow.Author.Tests.{eqb-true, ltb-true, ltb-false, not-true}
 use Rattle.meaning.specs.Below.{within}
 use Rattle.meaning.specs.Bytes.{bit}
 use Rattle.meaning.specs.Table.{Table, is, transition}
@@ -17,14 +17,14 @@ use Rattle.meaning.specs.Priority.{above}
 use Rattle.meaning.specs.Image.{State}
 use Rattle.meaning.specs.Cycle.{enabled, firable, withdrawn, residual, rule, fired, as-wanted, in-time}
 use Rattle.meaning.proofs.Bool.{and-left, and-right}
-use Rattle.meaning.proofs.Below.{sum-zero}
+use Rattle.meaning.proofs.Below.{some-same, none-elim, sum-zero}
 use Rattle.meaning.proofs.Well.{Well}
 use Rattle.meaning.proofs.Fired.{and-same, enabled-same, withdrawn-same, height, height-falls, height-bound, firable-out, fired-only}
 use Rattle.sets.proofs.Bits.{bit-zero, bit-and, bit-out}
-use Rattle.enabled.specs.Inputs.{enabled-by}
+use Rattle.net.specs.Rows.{cell}
+use Rattle.enabled.specs.Inputs.{in-words, stops-at, enabled-by}
 use Rattle.moves.specs.Moves.{moved-at}
 use Rattle.fire.specs.Fired.{left-enabled, pays, Ranks, Fires}
-use Rattle.fire.proofs.Rounds.{left-same}
 
 -- The list of f's first n values.
 pub listed : ℕ → (ℕ → ℕ) → List ℕ
@@ -36,6 +36,27 @@ unfolding listed
 listed-at zero f k h = absurd (not-suc-le-zero h)
 listed-at (suc n) f zero h = refl
 listed-at (suc n) f (suc k) h = listed-at n (λ k. f (suc k)) k (le-of-suc-le-suc h)
+
+-- Where the marking enables t, the rest of it enables t exactly if nothing stops t where the set g takes.
+left-same : (m rest : List ℕ) (w s : List (List ℕ)) (takers : List ℕ) (low high g t : ℕ) → enabled-by m w s low high t ≡ true
+    → ((p : ℕ) → p < 128 → getD rest p 0 ≡ getD m p 0 - moved-at g takers w p)
+    → enabled-by rest w s low high t ≡ left-enabled m w s takers low high g t
+unfolding enabled-by left-enabled
+left-same m rest w s takers low high g t on e =
+    ap not (some-same 128 _ _ (λ p h. and-same (in-words low high p) _ _ (λ i. go p h i (eqb (bitAnd g (getD takers p 0)) 0) refl)))
+  where
+    -- Where the set takes nothing all stays, and so the arc does not stop t.
+    untouched : (p : ℕ) → p < 128 → bitAnd g (getD takers p 0) ≡ 0 → getD rest p 0 ≡ getD m p 0
+    untouched p h z =
+        let none : moved-at g takers w p ≡ 0 = sum-zero 64 _ (λ u l. rw (sym (bit-and g (getD takers p 0) u) ∙ ap (λ (x : ℕ). bit x u) z ∙ bit-zero u)) in
+        omega (arith, e p h)
+
+    go : (p : ℕ) → p < 128 → in-words low high p ≡ true → (b : Bool) → eqb (bitAnd g (getD takers p 0)) 0 ≡ b
+        → stops-at rest w s t p
+        ≡ (not b && cond (eqb (cell s p t) 2) (leb (cell w p t) (getD m p 0 - moved-at g takers w p)) (ltb (getD m p 0 - moved-at g takers w p) (cell w p t)))
+    go p h i true z =
+        rw (untouched p h (eqb-true _ _ z)) (rw i at (none-elim 128 (λ p. in-words low high p && stops-at m w s t p) (not-true _ on) p h))
+    go p h i false z = rw (e p h)
 
 -- Rows that say who stands above whom by the table.
 abbrev pub Above : Table → List ℕ → Type 0
@@ -55,11 +76,12 @@ module _ (tb : Table) (ok : Well tb) (higher : List ℕ) (is-above : Above tb hi
       (is-able : (t : ℕ) → t < 64 → bit able t ≡ firable tb s word t) (tokens : (p : ℕ) → p < 128 → getD m p 0 ≡ s .tokens p)
       (takes : (g p : ℕ) → p < 128 → moved-at g takers w p ≡ withdrawn tb (bit g) p)
       (enables : (n : List ℕ) (t : ℕ) → t < 64 → enabled-by n w sorts (getD low t 0) (getD high t 0) t ≡ enabled tb (λ p. getD n p 0) t) where
-    -- What a set leaves is what it leaves by the table.
-    left-is : (g t : ℕ) → t < 64
-        → left-enabled m w sorts takers (getD low t 0) (getD high t 0) g t ≡ enabled tb (λ p. s .tokens p - withdrawn tb (bit g) p) t
-    left-is g t h =
-        sym (left-same m rest w sorts takers (getD low t 0) (getD high t 0) g t (λ p l i. listed-at 128 _ p l))
+    -- So a firable transition pays exactly if it is enabled by what the set leaves: where the set takes nothing the marking itself enables it.
+    pays-is : (g t : ℕ) → t < 64 → firable tb s word t ≡ true
+        → pays m w sorts takers low high g t ≡ enabled tb (λ p. s .tokens p - withdrawn tb (bit g) p) t
+    unfolding firable
+    pays-is g t h e =
+        sym (left-same m rest w sorts takers (getD low t 0) (getD high t 0) g t by-marking (λ p l. listed-at 128 _ p l))
         ∙ enables rest t h
         ∙ enabled-same tb _ _ t
         (λ r l k e.
@@ -69,31 +91,14 @@ module _ (tb : Table) (ok : Well tb) (higher : List ℕ) (is-above : Above tb hi
         rest : List ℕ
         rest = listed 128 (λ p. getD m p 0 - moved-at g takers w p)
 
-    -- The empty set takes nothing.
-    none-taken : (p : ℕ) → p < 128 → withdrawn tb (bit 0) p ≡ 0
-    none-taken p h = sym (takes 0 p h) ∙ sum-zero 64 _ (λ t l. rw (bit-zero t))
-
-    -- So a firable transition pays exactly if it is enabled by what the set leaves.
-    pays-is : (g t : ℕ) → t < 64 → firable tb s word t ≡ true
-        → pays m w sorts takers low high g t ≡ enabled tb (λ p. s .tokens p - withdrawn tb (bit g) p) t
-    unfolding pays firable
-    pays-is g t h e = go (eqb g 0) refl
-      where
         on : enabled tb (s .tokens) t ≡ true
         on =
             let rest = and-right (transition tb t) (enabled tb (s .tokens) t && as-wanted tb word t && in-time tb (s .counter t) t) e in
             and-left _ (as-wanted tb word t) (and-left _ (in-time tb (s .counter t) t) rest)
 
-        go : (b : Bool) → eqb g 0 ≡ b
-            → cond b true (left-enabled m w sorts takers (getD low t 0) (getD high t 0) g t)
-            ≡ enabled tb (λ p. s .tokens p - withdrawn tb (bit g) p) t
-        go true z =
-            sym on
-            ∙ enabled-same tb _ _ t
-            (λ r l k e.
-            let place = ok .place-known (tb .one r) (ok .arc-place r l k) in
-            rw (eqb-true g 0 z, none-taken (tb .one r) place) (omega arith))
-        go false z = left-is g t h
+        by-marking : enabled-by m w sorts (getD low t 0) (getD high t 0) t ≡ true
+        by-marking =
+            enables m t h ∙ enabled-same tb _ _ t (λ r l k e. tokens (tb .one r) (ok .place-known (tb .one r) (ok .arc-place r l k))) ∙ on
 
     -- The members of r above t, as a set and by the table.
     residual-is : (r t : ℕ) → t < 64

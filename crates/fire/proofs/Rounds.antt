@@ -1,38 +1,30 @@
 -- One round keeps what the fired set has to meet: a decided transition has none of those left above it, so what it was decided by stays as it was.
-use mathlib.Core.Bool.{Bool, true, false, cond, not, _&&_, _||_, and-true, and-false, or-false}
+use mathlib.Core.Bool.{Bool, true, false, not, _&&_, _||_, and-true, and-false, or-false}
 use mathlib.Core.List.{List}
 use mathlib.Core.Path.{_≡_, refl, sym, ap, _∙_}
-use Prim.Native.Nat.{ℕ, _+_, _-_, _<_, _^_}
+use Prim.Native.Nat.{ℕ, _+_, _<_, _^_}
 use native.Mathlib.Nat.{not-suc-le-zero, lt-of-le-of-lt}
 use native.Mathlib.Omega.{arith}
 use lib.Bits.{bitAnd, and-le-l}
 use lib.Dec.{eqb, ltb}
 use lib.ListN.{getD}
-use borrow.Author.Tests.{eqb-true, eq-eqb, ne-eqb, lt-ltb}
+use borrow.Author.Tests.{eqb-true, eq-eqb, lt-ltb}
 use Rattle.meaning.specs.Bytes.{bit}
 use Rattle.meaning.proofs.Bool.{not-both, and-left, and-right}
-use Rattle.meaning.proofs.Below.{some-same, none-intro, none-elim}
-use Rattle.meaning.proofs.Fired.{and-same}
+use Rattle.meaning.proofs.Below.{none-intro, none-elim}
 use Rattle.sets.proofs.Bits.{bit-zero, bit-and, same-set}
-use Rattle.enabled.specs.Inputs.{in-words, enabled-by}
-use Rattle.moves.specs.Moves.{moved-at}
+use Rattle.enabled.specs.Inputs.{in-words}
 use Rattle.fire.specs.declared.Split.{Split}
-use Rattle.fire.specs.Fired.{left-enabled, Residual, pays, Ranks, Fires}
+use Rattle.fire.specs.Fired.{left-enabled, pays, Ranks, Fires}
 use Rattle.fire.specs.Round.{Round, waits-for}
 
--- Whoever the rest of the marking enables is enabled by what the set g leaves: only the places of its words are asked.
-pub left-same : (m rest : List ℕ) (w s : List (List ℕ)) (takers : List ℕ) (low high g t : ℕ)
-    → ((p : ℕ) → p < 128 → in-words low high p ≡ true → getD rest p 0 ≡ getD m p 0 - moved-at g takers w p)
-    → enabled-by rest w s low high t ≡ left-enabled m w s takers low high g t
-unfolding enabled-by left-enabled
-left-same m rest w s takers low high g t e = ap not (some-same 128 _ _ (λ p h. and-same (in-words low high p) _ _ (λ i. rw (e p h i))))
-
--- So where something is taken, the rest answers for t.
-pub rest-says : (m rest : List ℕ) (w s : List (List ℕ)) (takers : List ℕ) (low high g t : ℕ) (b : Bool) → t < 64 → ¬ (g ≡ 0)
-    → Residual (record { low = low; high = high }) m w takers g rest
-    → b ≡ (ltb t 64 && enabled-by rest w s low high t) → b ≡ cond (eqb g 0) true (left-enabled m w s takers low high g t)
-rest-says m rest w s takers low high g t b h n left says =
-    rw (ne-eqb g 0 n) (says ∙ rw (lt-ltb t 64 h) (left-same m rest w s takers low high g t (left .holds)))
+-- Where the set g takes nothing, nothing of it stops t.
+pub spared : (m : List ℕ) (w s : List (List ℕ)) (takers : List ℕ) (low high g t : ℕ) → g ≡ 0 → left-enabled m w s takers low high g t ≡ true
+unfolding left-enabled
+spared m w s takers low high g t e =
+    ap not
+    (none-intro 128 _
+    (λ p h. rw (eq-eqb (bitAnd g (getD takers p 0)) 0 (omega (arith, and-le-l g (getD takers p 0)))) (and-false (in-words low high p))))
 
 -- A walk over the members of `left` has `todo` to come: x has what the base has, and those passed of which f holds.
 abbrev pub Passed : ℕ → ℕ → ℕ → (ℕ → Bool) → ℕ → Type 0
@@ -78,16 +70,36 @@ module _ (able : ℕ) (higher m : List ℕ) (w s : List (List ℕ)) (takers low 
     pub clear : (t u : ℕ) → t < 64 → u < 64 → bit able t ≡ true → bit left t ≡ false → bit (getD higher t 0) u ≡ true → bit left u ≡ false
     pub meets : (t : ℕ) → t < 64 → bit left t ≡ false → bit out t ≡ (bit able t && keeps higher m w s takers low high out t)
 
-  -- At the start all are left.
-  pub at-start : Ranks higher → Decided 0 able 0
-  at-start r =
-      record {
-        ranks = r;
-        gone = λ t h l. absurd (not-suc-le-zero l);
-        opens = λ t h e. (e, bit-zero t);
-        clear = λ t u h l e n a. not-both e n;
-        meets = λ t h e. rw e (bit-zero t);
-      }
+  -- At the start those are left that somebody stands above. All other firable ones have fired: nobody takes before them.
+  module _ (lower : ℕ) (top : (t : ℕ) → t < 64 → bit lower t ≡ false → (u : ℕ) → u < 64 → bit (getD higher t 0) u ≡ false) (out : ℕ)
+      (small : out < 2 ^ 64) (first : (t : ℕ) → bit out t ≡ (bit able t && not (bit lower t))) where
+    -- Who is firable and not left has nobody above it.
+    open-top : (t : ℕ) → bit able t ≡ true → bit (bitAnd able lower) t ≡ false → bit lower t ≡ false
+    open-top t e n = rw e at (sym (bit-and able lower t) ∙ n)
+
+    -- So nothing is taken before it.
+    untaken : (t : ℕ) → t < 64 → bit lower t ≡ false → keeps higher m w s takers low high out t ≡ true
+    untaken t h n =
+        spared m w s takers (getD low t 0) (getD high t 0) _ t
+        (same-set (bitAnd out (getD higher t 0)) 0 (lt-of-le-of-lt (and-le-l out (getD higher t 0)) small) (omega arith)
+        (λ u l. bit-and out (getD higher t 0) u ∙ rw (top t h n u l, and-false (bit out u)) (sym (bit-zero u))))
+
+    pub at-start : Ranks higher → Decided 0 (bitAnd able lower) out
+    at-start r =
+        record {
+          ranks = r;
+          gone = λ t h l. absurd (not-suc-le-zero l);
+          opens = λ t h e.
+              let both : (bit able t && bit lower t) ≡ true = sym (bit-and able lower t) ∙ e in
+              (and-left (bit able t) (bit lower t) both, first t ∙ rw (and-right (bit able t) (bit lower t) both) (and-false (bit able t)));
+          clear = λ t u h l e n a. not-both a (top t h (open-top t e n) u l);
+          meets = λ t h n. first t ∙ met t h n (bit able t) refl;
+        }
+      where
+        met : (t : ℕ) → t < 64 → bit (bitAnd able lower) t ≡ false → (b : Bool) → bit able t ≡ b
+            → (b && not (bit lower t)) ≡ (b && keeps higher m w s takers low high out t)
+        met t h n true e = rw (open-top t e n) (sym (untaken t h (open-top t e n)))
+        met t h n false e = refl
 
 module _ {able : ℕ} {higher m : List ℕ} {w s : List (List ℕ)} {takers low high : List ℕ} {k left out : ℕ}
     (d : Decided able higher m w s takers low high k left out) where

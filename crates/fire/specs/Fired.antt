@@ -5,32 +5,27 @@ use mathlib.Core.Path.{_≡_}
 use Prim.Native.Nat.{ℕ, _-_, _<_}
 use lib.Bits.{bitAnd}
 use lib.Dec.{leb, ltb, eqb}
-use lib.ListN.{length, getD}
+use lib.ListN.{getD}
 use Rattle.meaning.specs.Below.{some}
 use Rattle.meaning.specs.Bytes.{bit}
-use Rattle.places.specs.declared.Places.{Places}
-use Rattle.places.specs.Set.{has}
 use Rattle.net.specs.Rows.{cell}
 use Rattle.enabled.specs.Inputs.{in-words}
 use Rattle.moves.specs.Moves.{moved-at}
 
--- Transition t is enabled by the marking m less what the set g takes, by its places (two words), its weights and sorts.
+-- Some members of the set g take from place p, and with what they leave there the arc from p stops transition t: an inhibitor arc (sort 2) that
+-- finds its weight, any other that does not.
+abbrev pub stopped-at : List ℕ → List (List ℕ) → List (List ℕ) → List ℕ → ℕ → ℕ → ℕ → Bool
+stopped-at m w s takers g t p =
+    not (eqb (bitAnd g (getD takers p 0)) 0)
+    && cond (eqb (cell s p t) 2) (leb (cell w p t) (getD m p 0 - moved-at g takers w p)) (ltb (getD m p 0 - moved-at g takers w p) (cell w p t))
+
+-- No arc from a place of the two words stops transition t so.
 unfoldable pub left-enabled : List ℕ → List (List ℕ) → List (List ℕ) → List ℕ → ℕ → ℕ → ℕ → ℕ → Bool
-left-enabled m w s takers low high g t =
-    not
-    (some 128
-    (λ p.
-    in-words low high p
-    && cond (eqb (cell s p t) 2) (leb (cell w p t) (getD m p 0 - moved-at g takers w p)) (ltb (getD m p 0 - moved-at g takers w p) (cell w p t))))
+left-enabled m w s takers low high g t = not (some 128 (λ p. in-words low high p && stopped-at m w s takers g t p))
 
--- At each of the places r holds what the set g leaves of the marking m.
-pub record Residual (at : Places) (m : List ℕ) (w : List (List ℕ)) (takers : List ℕ) (g : ℕ) (r : List ℕ) : Type 0 where
-  pub size : length r ≡ 128
-  pub holds : (p : ℕ) → p < 128 → has at p ≡ true → getD r p 0 ≡ getD m p 0 - moved-at g takers w p
-
--- Nothing taken, a firable transition stays enabled; else it is asked again.
-unfoldable pub pays : List ℕ → List (List ℕ) → List (List ℕ) → List ℕ → List ℕ → List ℕ → ℕ → ℕ → Bool
-pays m w s takers low high g t = cond (eqb g 0) true (left-enabled m w s takers (getD low t 0) (getD high t 0) g t)
+-- A firable transition stays enabled by what the set g leaves: only where g takes can that stop it.
+abbrev pub pays : List ℕ → List (List ℕ) → List (List ℕ) → List ℕ → List ℕ → List ℕ → ℕ → ℕ → Bool
+pays m w s takers low high g t = left-enabled m w s takers (getD low t 0) (getD high t 0) g t
 
 -- Whoever stands above a transition is ranked lower, and there are 64 ranks.
 pub record Ranks (higher : List ℕ) : Type 0 where

@@ -1,12 +1,11 @@
 // The fired set (definition 6): firable transitions are decided once all above them are, each against what the fired ones above it leave.
-use places::Places;
-ghost use mathlib.Core.Bool.{true, cond, not, _&&_, _||_};
+ghost use mathlib.Core.Bool.{false, _&&_};
 ghost use mathlib.Core.Path.{_≡_};
-ghost use Prim.Native.Nat.{ℕ, _-_, _<_};
-ghost use lib.Dec.{eqb, ltb};
-ghost use lib.ListN.{length};
+ghost use Prim.Native.Nat.{ℕ, _+_, _-_, _≤_, _<_};
+ghost use lib.ListN.{getD};
+ghost use Rattle.meaning.specs.Below.{some};
 ghost use Rattle.meaning.specs.Bytes.{bit};
-ghost use Rattle.fire.specs.Fired.{Ranks, Fires, left-enabled, Residual};
+ghost use Rattle.fire.specs.Fired.{Ranks, Fires, stopped-at, left-enabled};
 ghost use Rattle.fire.specs.Round.{Round};
 
 // What a round leaves undecided, and what has fired after it.
@@ -22,31 +21,39 @@ fn rest_of(tokens: u32, taken: u32) -> u32
     if taken < tokens { tokens - taken } else { 0 }
 }
 
-// Of the places in `at` what the set g leaves of the marking; the other places of `rest` stay as they are.
-fn residual(
-    rest: &mut [u32; 128],
-    at: Places,
+// Does some arc from a place of the word stop t, where members of g take and with what they leave there? The word has 64 places, from the first on.
+fn stopped_from(
     m: &[u32; 128],
     w: &[[u16; 64]; 128],
+    s: &[[u8; 64]; 128],
     takers: &[u64; 128],
+    word: u64,
+    from: usize,
     g: u64,
-)
-    requires { ⌜ length (now rest) ≡ 128 ⌝ }
-    ensures { λ _. ⌜ Residual at (now (m .entry)) (now (w .entry)) (now (takers .entry)) g (now (rest .exit)) ⌝ }
+    t: usize,
+) -> bool
+    requires { ⌜ from ≤ 64 ⌝ }
+    requires { ⌜ t < 64 ⌝ }
+    ensures { λ r. ⌜ r ≡ some 64 (λ p. bit word p && stopped-at (now (m .entry)) (now (w .entry)) (now (s .entry)) (now (takers .entry)) g t (from + p)) ⌝ }
 {
-    let mut left = at;
-    let mut p = places::first(left);
-    while p < 128 {
-        let taken = moves::at_place(g & takers[p], &w[p]);
-        rest[p] = rest_of(m[p], taken);
-        left = places::rest(left);
-        p = places::first(left);
+    let mut left = word;
+    while left != 0 {
+        let k = sets::lowest(left);
+        let p = from + k;
+        let rivals = g & takers[p];
+        if rivals != 0 {
+            let taken = moves::at_place(rivals, &w[p]);
+            if enabled::stops(rest_of(m[p], taken), w[p][t], s[p][t]) {
+                return true;
+            }
+        }
+        left = sets::rest(left);
     }
+    false
 }
 
-// Does transition t, whose input arcs come from the places of the two words, stay enabled by what the set g leaves? `rest` takes the residual.
+// Does transition t, whose input arcs come from the places of the two words, stay enabled by what the set g leaves?
 fn decide(
-    rest: &mut [u32; 128],
     m: &[u32; 128],
     w: &[[u16; 64]; 128],
     s: &[[u8; 64]; 128],
@@ -56,52 +63,20 @@ fn decide(
     g: u64,
     t: usize,
 ) -> bool
-    requires { ⌜ length (now rest) ≡ 128 ⌝ }
     requires { ⌜ t < 64 ⌝ }
-    ensures { λ r. ⌜ r ≡ cond (eqb g 0) true (left-enabled (now (m .entry)) (now (w .entry)) (now (s .entry)) (now (takers .entry)) low high g t) ⌝ }
-    ensures { λ _. ⌜ length (now (rest .exit)) ≡ 128 ⌝ }
+    ensures { λ r. ⌜ r ≡ left-enabled (now (m .entry)) (now (w .entry)) (now (s .entry)) (now (takers .entry)) low high g t ⌝ }
 {
     if g == 0 {
         return true;
     }
-    residual(rest, Places { low, high }, m, w, takers, g);
-    enabled::enabled(rest, w, s, low, high, t)
-}
-
-// Does t fire in this round: none of those left stands above it, and it stays enabled?
-fn joins(
-    rest: &mut [u32; 128],
-    waits: bool,
-    m: &[u32; 128],
-    w: &[[u16; 64]; 128],
-    s: &[[u8; 64]; 128],
-    takers: &[u64; 128],
-    low: u64,
-    high: u64,
-    g: u64,
-    t: usize,
-) -> bool
-    requires { ⌜ length (now rest) ≡ 128 ⌝ }
-    requires { ⌜ t < 64 ⌝ }
-    ensures { λ r. ⌜ r ≡ (not waits && cond (eqb g 0) true (left-enabled (now (m .entry)) (now (w .entry)) (now (s .entry)) (now (takers .entry)) low high g t)) ⌝ }
-    ensures { λ _. ⌜ length (now (rest .exit)) ≡ 128 ⌝ }
-{
-    if waits {
+    if stopped_from(m, w, s, takers, low, 0, g, t) {
         return false;
     }
-    decide(rest, m, w, s, takers, low, high, g, t)
-}
-
-// s and t, where the answer is yes.
-fn put(s: u64, t: usize, yes: bool) -> u64
-    ensures { λ r. ⌜ ((j : ℕ) → bit r j ≡ (bit s j || (yes && (eqb t j && ltb t 64)))) ⌝ }
-{
-    if yes { sets::with(s, t) } else { s }
+    !stopped_from(m, w, s, takers, high, 64, g, t)
 }
 
 // One round: of those left, whoever has none of them above it is decided, against the members of `out` above it.
 fn one_round(
-    rest: &mut [u32; 128],
     left: u64,
     out: u64,
     higher: &[u64; 64],
@@ -112,9 +87,7 @@ fn one_round(
     low: &[u64; 64],
     high: &[u64; 64],
 ) -> Split
-    requires { ⌜ length (now rest) ≡ 128 ⌝ }
     ensures { λ x. ⌜ Round left out (now (higher .entry)) (now (m .entry)) (now (w .entry)) (now (s .entry)) (now (takers .entry)) (now (low .entry)) (now (high .entry)) x ⌝ }
-    ensures { λ _. ⌜ length (now (rest .exit)) ≡ 128 ⌝ }
 {
     let mut todo = left;
     let mut keep: u64 = 0;
@@ -122,21 +95,13 @@ fn one_round(
     while todo != 0 {
         let t = sets::lowest(todo);
         let above = higher[t];
-        let waits = sets::meet(above, left);
-        let fires = joins(
-            rest,
-            waits,
-            m,
-            w,
-            s,
-            takers,
-            low[t],
-            high[t],
-            out & above,
-            t,
-        );
-        keep = put(keep, t, waits);
-        more = put(more, t, fires);
+        if sets::meet(above, left) {
+            keep = sets::with(keep, t);
+        } else {
+            if decide(m, w, s, takers, low[t], high[t], out & above, t) {
+                more = sets::with(more, t);
+            }
+        }
         todo = sets::rest(todo);
     }
     Split {
@@ -145,9 +110,11 @@ fn one_round(
     }
 }
 
-// The fired set, in at most 64 rounds: those of rank k are decided by round k.
+// The fired set. Whoever has nobody above it fires at once, if firable; `lower` has those that somebody stands above, and they are decided in
+// at most 64 rounds, those of rank k by round k.
 pub fn fired(
     able: u64,
+    lower: u64,
     higher: &[u64; 64],
     m: &[u32; 128],
     w: &[[u16; 64]; 128],
@@ -157,17 +124,17 @@ pub fn fired(
     high: &[u64; 64],
 ) -> u64
     requires { ⌜ Ranks (now higher) ⌝ }
+    requires { ⌜ ((t : ℕ) → t < 64 → bit lower t ≡ false → (u : ℕ) → u < 64 → bit (getD (now higher) t 0) u ≡ false) ⌝ }
     ensures { λ r. ⌜ Fires able (now (higher .entry)) (now (m .entry)) (now (w .entry)) (now (s .entry)) (now (takers .entry)) (now (low .entry)) (now (high .entry)) r ⌝ }
 {
-    let mut left = able;
-    let mut out: u64 = 0;
-    let mut rest = [0u32; 128];
+    let mut left = able & lower;
+    let mut out = sets::less(able, lower);
     let mut k: usize = 0;
     while k < 64 {
         if left == 0 {
             return out;
         }
-        let x = one_round(&mut rest, left, out, higher, m, w, s, takers, low, high);
+        let x = one_round(left, out, higher, m, w, s, takers, low, high);
         left = x.left;
         out = x.out;
         k += 1;

@@ -1,5 +1,5 @@
--- From cells to the meaning: each cell of a place is one arc's, so what the members move there, transition by transition, is what their arcs carry,
--- record by record.
+-- From cells and tallies to the meaning: each cell of a place is one arc's, so what the members move there, transition by transition, is what their
+-- arcs carry, record by record; and a tally adds up record by record.
 use mathlib.Core.Bool.{Bool, true, false, cond, _&&_}
 use mathlib.Core.List.{List}
 use mathlib.Core.Path.{_≡_, refl, sym, ap, _∙_}
@@ -10,7 +10,7 @@ use lib.ListN.{getD}
 use borrow.Author.Tests.{eqb-true, eq-eqb, ne-eqb, ltb-true, lt-ltb}
 use Rattle.meaning.specs.Below.{some, sum}
 use Rattle.meaning.specs.Bytes.{bit}
-use Rattle.meaning.specs.Table.{Table, total, is, basic, post}
+use Rattle.meaning.specs.Table.{Table, total, is, basic}
 use Rattle.meaning.specs.Cycle.{withdrawn, added}
 use Rattle.meaning.proofs.Bool.{not-both, and-left, and-right, and-true}
 use Rattle.meaning.proofs.Below.{some-intro, some-elim, sum-same, sum-zero, sum-add}
@@ -18,8 +18,11 @@ use Rattle.meaning.proofs.Reflect.{not-true-false}
 use Rattle.meaning.proofs.Sound.{sum-one}
 use Rattle.net.specs.Rows.{Gathered, Weights, latest, cell}
 use Rattle.net.proofs.Carry.{latest-is}
-use Rattle.net.specs.Rows.{Posts}
+use Rattle.places.specs.declared.Places.{Places}
+use Rattle.moves.specs.declared.Moved.{Moved}
 use Rattle.moves.specs.Moves.{moved-at}
+use Rattle.moves.specs.Tallied.{Tallied, moved-by, moved-at-all}
+use Rattle.moves.proofs.Sums.{load-none}
 
 -- A sum of sums, taken the other way.
 sum-swap : (m n : ℕ) (h : ℕ → ℕ → ℕ) → sum m (λ t. sum n (λ r. h r t)) ≡ sum n (λ r. sum m (h r))
@@ -126,19 +129,17 @@ module _ (tb : Table) (arcs : (r : ℕ) → r < tb .records → tb .kind r ≡ 3
       single r s hr hs (eqb-true _ _ (x .0)) (eqb-true _ _ (y .0)) (ltb-true _ _ (x .1)) (ltb-true _ _ (y .1))
       (eqb-true _ _ (x .2) ∙ sym (eqb-true _ _ (y .2))) k)
 
-  -- No two post arcs do: what the givers of `set` move at a place is what the set adds.
-  pub added-same : Posts tb w
-      → ((p t : ℕ) → p < 128 → t < 64
-      → bit (getD rows p 0) t ≡ some (tb .records) (λ r. post tb r && eqb (tb .one r) p && eqb (tb .two r) t))
-      → ((r s : ℕ) → r < tb .records → s < tb .records → tb .kind r ≡ 3 → tb .kind s ≡ 3 → tb .sort r ≡ 3 → tb .sort s ≡ 3
-      → tb .one r ≡ tb .one s → tb .two r ≡ tb .two s → r ≡ s)
-      → (set p : ℕ) → p < 128 → moved-at set rows w p ≡ added tb (bit set) p
+-- What a tally adds up is what the meaning says: over basic arcs what the set withdraws, over post arcs what it puts.
+module _ (tb : Table) (chosen : ℕ) (m : List ℕ) (before : Places) (moved : List ℕ) (x : Moved) where
+  pub taken-is : Tallied tb 0 chosen m before moved x → (p : ℕ) → p < 128 → getD moved p 0 ≡ withdrawn tb (bit chosen) p
+  unfolding withdrawn
+  taken-is y = y .moved-is
+
+  pub put-is : Tallied tb 3 chosen m before moved x → (p : ℕ) → p < 128 → getD moved p 0 ≡ added tb (bit chosen) p
   unfolding added
-  added-same gw gr single set p hp =
-      moved-total tb set rows w p (λ r. post tb r && eqb (tb .one r) p) (λ r. post tb r && eqb (tb .one r) p) (λ t h. gr p t hp h)
-      (λ t h. gw .holds p t hp h) (λ r e. e) (λ r h e. arcs r h (eqb-true _ _ (three (is tb 3 r) (eqb (tb .sort r) 3) (eqb (tb .one r) p) e .0)) .1)
-      (λ r s hr hs er es k.
-      let x = three (is tb 3 r) (eqb (tb .sort r) 3) (eqb (tb .one r) p) er in
-      let y = three (is tb 3 s) (eqb (tb .sort s) 3) (eqb (tb .one s) p) es in
-      single r s hr hs (eqb-true _ _ (x .0)) (eqb-true _ _ (y .0)) (eqb-true _ _ (x .1)) (eqb-true _ _ (y .1))
-      (eqb-true _ _ (x .2) ∙ sym (eqb-true _ _ (y .2))) k)
+  put-is y = y .moved-is
+
+-- Where no arc moves anything, nothing is moved.
+pub unmoved : (tb : Table) (sort : ℕ) (F : ℕ → Bool) (p : ℕ) → moved-at-all tb sort F p ≡ false → moved-by tb sort F p ≡ 0
+unfolding total
+unmoved tb sort F p e = load-none tb sort (λ r. F (tb .two r)) p e

@@ -1,26 +1,18 @@
--- One more record, and one more member: a post arc is an input arc of the table with its sorts turned, so the laws of the input arcs' cells serve;
--- and what is left of a set, with the member taken out, adds up to the set.
+-- One more member: what is left of a set, with the member taken out, adds up to the set.
 use mathlib.Core.Bool.{Bool, true, false, cond, not, _&&_}
-use mathlib.Core.List.{List}
-use mathlib.Core.Logic.{⊎-elim}
 use mathlib.Core.Path.{_≡_, refl, sym, ap, _∙_}
 use Prim.Native.Nat.{ℕ, _+_, _≤_, _<_}
 use native.Mathlib.Nat.{add-zero, zero-add}
 use native.Mathlib.Omega.{arith}
-use native.Mathlib.Numerals.{add-one}
 use lib.Bits.{bitAnd}
 use lib.Dec.{eqb}
-use lib.ListN.{length, getD, set}
-use lib.Seq.{getD-set-same, getD-set-other}
 use borrow.Author.Tests.{eqb-true, eq-eqb, ne-eqb}
 use Rattle.meaning.specs.Below.{sum, first}
 use Rattle.meaning.specs.Bytes.{bit}
-use Rattle.meaning.specs.Table.{post}
 use Rattle.meaning.proofs.Bool.{not-both}
-use Rattle.meaning.proofs.Below.{sum-same, sum-add, sum-zero, sum-mono, sum-part, first-passes, first-before, last}
+use Rattle.meaning.proofs.Below.{sum-same, sum-add, sum-zero, sum-mono, sum-part, first-passes, first-before}
 use Rattle.meaning.proofs.Sound.{sum-one}
 use Rattle.sets.proofs.Bits.{bit-and}
-use Rattle.net.specs.Rows.{input}
 
 -- The sum of f over the members of a set.
 abbrev pub over : ℕ → (ℕ → ℕ) → ℕ
@@ -68,11 +60,3 @@ count-low s = sum-mono 64 (λ t. cond (bit s t) 1 0) (λ t. 1) (λ k h. at-most 
 pub over-both : (s a : ℕ) (f : ℕ → ℕ) → over (bitAnd s a) f ≡ sum 64 (λ t. cond (bit s t && bit a t) (f t) 0)
 over-both s a f =
     sum-same 64 (λ t. cond (bit (bitAnd s a) t) (f t) 0) (λ t. cond (bit s t && bit a t) (f t) 0) (λ t h. rw (bit-and s a t))
-
--- One more place is filled.
-pub filled : (r : List ℕ) (p v : ℕ) (g : ℕ → ℕ) → p < length r → ((q : ℕ) → q < p → getD r q 0 ≡ g q) → v ≡ g p
-    → (q : ℕ) → q < p + 1 → getD (set r p v) q 0 ≡ g q
-filled r p v g h before here q l =
-    ⊎-elim (λ (e : q ≡ p). rw e (getD-set-same r p v 0 h ∙ here))
-    (λ (m : q < p). getD-set-other r p q v 0 (λ e. omega arith) ∙ before q m)
-    (last (rw add-one at l))

@@ -1,2 +1,3 @@
--- What a set of transitions moves.
+-- What a set of transitions moves, by rows and by chains.
 pub mod Moves
+pub mod Tallied

@@ -13,9 +13,9 @@ use borrow.Author.Tests.{ltb-true, eqb-true, eqb-false, not-true, lt-ltb, eq-eqb
 use Rattle.meaning.specs.Below.{some}
 use Rattle.meaning.specs.Bytes.{bit}
 use Rattle.meaning.specs.Table.{Table, is, basic, test, inhibitor}
-use Rattle.meaning.specs.Defined.{some-two, conflict, complementary, inhibited}
+use Rattle.meaning.specs.Defined.{conflict, complementary, inhibited}
 use Rattle.meaning.proofs.Bool.{either, not-both, and-left, and-right, and-true, or-true-left, or-true-right, or-cases, same-test}
-use Rattle.meaning.proofs.Below.{last, some-intro, some-elim, none-elim, some-same}
+use Rattle.meaning.proofs.Below.{last, some-intro, some-elim, none-elim}
 use Rattle.meaning.proofs.Pays.{two-elim, two-intro}
 use Rattle.net.specs.Rows.{Gathered, Conflicts, Weights, Sorts, latest, input, cell, inhibits-by}
 
@@ -44,12 +44,12 @@ all : {a b c d : Bool} → a ≡ true → b ≡ true → c ≡ true → d ≡ tr
 all p q r s = and-true (and-true (and-true p q) r) s
 
 -- A record of a kind and sort, with bytes 1 and 2.
-abbrev Named : Table → ℕ → ℕ → ℕ → ℕ → ℕ → Type 0
+abbrev pub Named : Table → ℕ → ℕ → ℕ → ℕ → ℕ → Type 0
 Named tb kind sort x y r = (r < tb .records) × (tb .kind r ≡ kind) × (tb .sort r ≡ sort) × (tb .one r ≡ x) × (tb .two r ≡ y)
 
 -- A bit of a gathered row is such a record.
 module _ (tb : Table) (kind sort : ℕ) (rows : List ℕ) (g : Gathered tb kind sort rows) (x y : ℕ) (hx : x < 128) (hy : y < 64) where
-  bit-record : bit (getD rows x 0) y ≡ true → (r : ℕ) × Named tb kind sort x y r
+  pub bit-record : bit (getD rows x 0) y ≡ true → (r : ℕ) × Named tb kind sort x y r
   bit-record e =
       let w = some-elim (tb .records) _ (sym (g .holds x y hx hy) ∙ e) in
       let t = each (is tb kind (w .0)) (eqb (tb .sort (w .0)) sort) (eqb (tb .one (w .0)) x) (eqb (tb .two (w .0)) y) (w .2) in

@@ -5,10 +5,9 @@ use mathlib.Core.Path.{_≡_, sym, _∙_}
 use Prim.Native.Nat.{ℕ, _/_, _≤_, _<_}
 use native.Mathlib.Omega.{arith}
 use lib.Dec.{eqb, ltb}
-use lib.ListN.{length, getD}
+use lib.ListN.{length}
 use borrow.Author.Tests.{eqb-true, lt-ltb, ltb-true}
-use Rattle.meaning.specs.Bytes.{bit}
-use Rattle.meaning.specs.Table.{Table, table, is, basic}
+use Rattle.meaning.specs.Table.{Table, table, is}
 use Rattle.meaning.proofs.Bool.{and-left, and-right, and-true, same-test}
 use Rattle.records.specs.Record.{Reads}
 use Rattle.records.specs.declared.Rec.{Rec}

@@ -1,4 +1,5 @@
--- What the rows of a net hold, and what they hold after a part of the records.
+-- What the rows and the chains of a net hold, and what they hold after a part of the records.
 pub mod Rows
 pub mod Grow
 pub mod Pass
+pub mod Chains

@@ -1,18 +1,23 @@
 -- What each array holds, in terms of the table's records.
-use mathlib.Core.Bool.{Bool, cond, not, _&&_, _||_}
+use mathlib.Core.Bool.{Bool, false, cond, not, _&&_, _||_}
 use mathlib.Core.List.{List, []}
 use mathlib.Core.Path.{_≡_}
-use Prim.Native.Nat.{ℕ, zero, suc, _<_}
+use Prim.Native.Nat.{ℕ, zero, suc, _≤_, _<_}
 use lib.Dec.{ltb, eqb}
 use lib.ListN.{length, getD}
 use Rattle.meaning.specs.Below.{some}
 use Rattle.meaning.specs.Bytes.{bit}
-use Rattle.meaning.specs.Table.{Table, is, post}
+use Rattle.meaning.specs.Table.{Table, is}
 
 -- Bit y of row x: some record of the kind and sort has byte 1 at x and byte 2 at y.
 pub record Gathered (tb : Table) (kind sort : ℕ) (rows : List ℕ) : Type 0 where
   pub holds : (x y : ℕ) → x < 128 → y < 64
       → bit (getD rows x 0) y ≡ some (tb .records) (λ r. is tb kind r && eqb (tb .sort r) sort && eqb (tb .one r) x && eqb (tb .two r) y)
+
+-- Of m rows those from n on are empty.
+pub record Blank-from (m n : ℕ) (rows : List ℕ) : Type 0 where
+  pub most : n ≤ m
+  pub none : (x y : ℕ) → n ≤ x → x < m → y < 64 → bit (getD rows x 0) y ≡ false
 
 -- What is shared: the row of each member of the set has the set beside what it had.
 pub record Shared (rows : List ℕ) (set : ℕ) (after : List ℕ) : Type 0 where
@@ -35,11 +40,6 @@ input tb p t r = is tb 3 r && ltb (tb .sort r) 3 && eqb (tb .one r) p && eqb (tb
 -- What stands at place p and transition t of an array of rows.
 abbrev pub cell : List (List ℕ) → ℕ → ℕ → ℕ
 cell m p t = getD (getD m p []) t 0
-
--- The weight of the post arc from each transition to each place, 0 where there is none.
-pub record Posts (tb : Table) (w : List (List ℕ)) : Type 0 where
-  pub holds : (p t : ℕ) → p < 128 → t < 64
-      → cell w p t ≡ latest (tb .records) (λ r. post tb r && eqb (tb .one r) p && eqb (tb .two r) t) (tb .four)
 
 pub record Weights (tb : Table) (w : List (List ℕ)) : Type 0 where
   pub holds : (p t : ℕ) → p < 128 → t < 64 → cell w p t ≡ latest (tb .records) (input tb p t) (tb .four)

@@ -1,16 +1,19 @@
-// A table read into rows: who takes from a place and who puts to it, who wants a condition, who is in conflict; the arcs' weights and the input arcs'
-// sorts, place by transition.
+// A table read into rows: who takes from a place, who wants a condition, who is in conflict; the input arcs' weights and sorts, place by transition;
+// and the chains of the arcs by which each transition takes and puts.
 use records::Rec;
 ghost use mathlib.Core.Bool.{not, _&&_};
 ghost use mathlib.Core.Path.{_≡_};
 ghost use lib.Dec.{eqb, ltb};
-ghost use lib.ListN.{length, replicate};
-ghost use Prim.Native.Nat.{ℕ, _+_};
+ghost use lib.ListN.{length, getD, set, replicate};
+ghost use Prim.Native.Nat.{ℕ, _+_, _<_};
+ghost use Rattle.meaning.specs.Answer.{accepted};
+ghost use Rattle.meaning.specs.Defined.{check};
 ghost use Rattle.meaning.specs.Table.{Table, table};
 ghost use Rattle.records.specs.Record.{Reads};
-ghost use Rattle.net.specs.Rows.{Gathered, Posts, Shared, Conflicts, inhibits-by};
+ghost use Rattle.net.specs.Rows.{Blank-from, Shared, Conflicts, inhibits-by};
 ghost use Rattle.net.specs.Pass.{Blank, Passes};
 ghost use Rattle.net.specs.Grow.{names, Grown, Kept};
+ghost use Rattle.net.specs.Chains.{Chained};
 
 // Is x of this kind and sort, with byte 1 below 128?
 fn named(x: Rec, kind: u8, sort: u8) -> bool
@@ -73,14 +76,15 @@ fn share(rows: &mut [u64; 64], set: u64)
     }
 }
 
-// For each transition the set of those that take from a place from which it takes: takers[p] is who takes from place p. The rows are lent
-// empty.
-pub fn conflicts(takers: &[u64; 128], rows: &mut [u64; 64])
+// For each transition the set of those that take from a place from which it takes: takers[p] is who takes from place p. From place n on nobody
+// takes, and the rows are lent empty.
+pub fn conflicts(takers: &[u64; 128], rows: &mut [u64; 64], n: usize)
+    requires { ⌜ Blank-from 128 n (now takers) ⌝ }
     requires { ⌜ now rows ≡ replicate 64 0 ⌝ }
     ensures { λ _. ⌜ Conflicts (now (takers .entry)) (now (rows .exit)) ⌝ }
 {
     let mut p = 0;
-    while p < 128 {
+    while p < n {
         let set = takers[p];
         if set != 0 {
             share(rows, set);
@@ -155,38 +159,38 @@ pub fn fill(
     n
 }
 
-// Is x a post arc, from a transition below 64 to a place below 128?
-fn post(x: Rec) -> bool
-    ensures { λ b. ⌜ b ≡ (eqb (x .kind) 3 && eqb (x .sort) 3 && ltb (x .one) 128 && ltb (x .two) 64) ⌝ }
+// Hangs record r into the chain of transition t: the chain begins with r and goes on with what it began with.
+fn chain(firsts: &mut [u16; 64], next: &mut [u16; 1024], t: usize, r: usize)
+    requires { ⌜ (t < 64) × (r < 1024) ⌝ }
+    ensures { λ _. ⌜ (now (firsts .exit) ≡ set (now (firsts .entry)) t (r + 1)) × (now (next .exit) ≡ set (now (next .entry)) r (getD (now (firsts .entry)) t 0)) ⌝ }
 {
-    if x.kind == 3 {
-        if x.sort == 3 {
-            if x.one < 128 { x.two < 64 } else { false }
-        } else {
-            false
-        }
-    } else {
-        false
-    }
+    next[r] = firsts[t];
+    firsts[t] = (r + 1) as u16;
 }
 
-// One pass over the records fills the rows that are lent empty: the weight of the post arc from each transition to each place, and who puts
-// to each place.
-pub fn posts(t: &[u8], w: &mut [[u16; 64]; 128], putters: &mut [u64; 128])
-    requires { ⌜ now w ≡ replicate 128 (replicate 64 0) ⌝ }
-    requires { ⌜ now putters ≡ replicate 128 0 ⌝ }
-    ensures { λ _. ⌜ Posts (table (now (t .entry))) (now (w .exit)) × Gathered (table (now (t .entry))) 3 3 (now (putters .exit)) ⌝ }
+// Chains the basic arcs of each transition, and its post arcs: `takes` and `puts` have the link to its last such record, and `next` has for each
+// of these the link to the one before it. A link is a record's number and one; 0 ends a chain. The links are lent empty.
+pub fn chains(t: &[u8], takes: &mut [u16; 64], puts: &mut [u16; 64], next: &mut [u16; 1024])
+    requires { ⌜ check (now t) ≡ accepted 0 ⌝ }
+    requires { ⌜ now takes ≡ replicate 64 0 ⌝ }
+    requires { ⌜ now puts ≡ replicate 64 0 ⌝ }
+    requires { ⌜ length (now next) ≡ 1024 ⌝ }
+    ensures { λ _. ⌜ Chained (table (now (t .entry))) 0 (now (takes .exit)) (now (next .exit)) × Chained (table (now (t .entry))) 3 (now (puts .exit)) (now (next .exit)) ⌝ }
 {
     let n = t.len() / 8;
     let mut r = 0;
     while r < n {
         let x = records::read(t, r);
-        let one = records::wide(x.one);
         let two = records::wide(x.two);
-        if post(x) {
-            w[one][two] = x.four;
+        if x.kind == 3 {
+            if x.sort == 0 {
+                chain(takes, next, two, r);
+            } else {
+                if x.sort == 3 {
+                    chain(puts, next, two, r);
+                }
+            }
         }
-        name(putters, x, 3, 3);
         r += 1;
     }
 }

@@ -13,6 +13,7 @@ use Rattle.meaning.specs.Bytes.{bit}
 use Rattle.meaning.proofs.Bool.{either}
 use Rattle.meaning.proofs.Below.{first-is, first-none}
 use Rattle.sets.proofs.Bits.{bit-zero}
+use Rattle.net.specs.Rows.{Blank-from}
 use Rattle.pairs.specs.Settled.{settled-by, loose}
 
 -- No number below n passes.
@@ -67,13 +68,27 @@ module _ (conflicts above truths falses : List ℕ) (w s : List (List ℕ)) wher
       let same : k ≡ 64 * i + (k - 64 * i) = omega arith in
       ap candidate same ∙ loose-at i (k - 64 * i) (omega arith) ∙ row (k - 64 * i) (omega arith))
 
-  -- Where i's row is empty nobody makes a loose pair with i.
+  -- Where i's row lacks k the pair is not loose, so that nobody makes one with i where it is empty.
+  lacking : (i k : ℕ) → bit (getD conflicts i 0) k ≡ false → pair i k ≡ false
+  lacking i k e = rw (e, and-false)
+
   pub empty-row : (i : ℕ) → getD conflicts i 0 ≡ 0 → (k : ℕ) → pair i k ≡ false
-  empty-row i e k = rw (e, bit-zero k, and-false)
+  empty-row i e k = lacking i k (ap (λ (x : ℕ). bit x k) e ∙ bit-zero k)
 
   -- A loose pair with none before it is the first; where there is none the answer is 4096.
   pub found : (i j : ℕ) (r : Bool) → i < 64 → j < 64 → None candidate (64 * i + j) → r ≡ pair i j → r ≡ true → 64 * i + j ≡ first 4096 candidate
   found i j r h l none e q = sym (first-is 4096 candidate (64 * i + j) (omega arith) (loose-at i j l ∙ sym e ∙ q) none)
 
-  pub not-found : (i n : ℕ) → 64 ≤ i → n ≡ 4096 → None candidate (64 * i) → n ≡ first 4096 candidate
-  not-found i n h e none = e ∙ sym (first-none 4096 candidate (λ k l. none k (omega arith)))
+  pub not-found : {n : ℕ} (i r : ℕ) → Blank-from 64 n conflicts → n ≤ i → r ≡ 4096 → None candidate (64 * i) → r ≡ first 4096 candidate
+  not-found i r blank h e none =
+      e
+      ∙ sym
+      (first-none 4096 candidate
+      (λ k l.
+      below-or-not k (64 * i) (none k)
+      (λ m.
+      let same : k ≡ 64 * (k / 64) + k % 64 = omega arith in
+      let low : k % 64 < 64 = omega arith in
+      let row : k / 64 < 64 = omega arith in
+      let past : i ≤ k / 64 = omega arith in
+      ap candidate same ∙ loose-at (k / 64) (k % 64) low ∙ lacking (k / 64) (k % 64) (blank .none (k / 64) (k % 64) (omega arith) row low))))

@@ -4,6 +4,7 @@ ghost use mathlib.Core.Path.{_≡_};
 ghost use lib.Dec.{ltb};
 ghost use Rattle.meaning.specs.Below.{first};
 ghost use Rattle.meaning.specs.Bytes.{bit};
+ghost use Rattle.net.specs.Rows.{Blank-from};
 ghost use Rattle.pairs.specs.Settled.{settled-by, loose};
 
 // Is the pair settled: one above the other, a condition wanted both ways, or an inhibitor arc of equal weight?
@@ -65,7 +66,7 @@ fn unsettled(
 }
 
 // 64i + j for the least pair i < j in conflict without a settlement, 4096 if there is none: for each i those in conflict with it, the lowest
-// first.
+// first. From n on nobody is in conflict.
 pub fn clash(
     conflicts: &[u64; 64],
     above: &[u64; 64],
@@ -73,11 +74,13 @@ pub fn clash(
     falses: &[u64; 128],
     w: &[[u16; 64]; 128],
     s: &[[u8; 64]; 128],
+    n: usize,
 ) -> usize
+    requires { ⌜ Blank-from 64 n (now conflicts) ⌝ }
     ensures { λ r. ⌜ r ≡ first 4096 (loose (now (conflicts .entry)) (now (above .entry)) (now (truths .entry)) (now (falses .entry)) (now (w .entry)) (now (s .entry))) ⌝ }
 {
     let mut found = 4096;
-    'search: for i in 0..64 {
+    'search: for i in 0..n {
         let row = conflicts[i];
         if row != 0 {
             let mut left = sets::without(row, i);

@@ -1,8 +1,8 @@
 -- Turning the rows: a walk over a row's members adds the row's transition to the set of each.
 use mathlib.Core.Bool.{Bool, true, false, _&&_, _||_, and-true, and-false, or-false}
 use mathlib.Core.List.{List}
-use mathlib.Core.Path.{_≡_, refl, ap, _∙_}
-use Prim.Native.Nat.{ℕ, _+_, _<_}
+use mathlib.Core.Path.{_≡_, refl, sym, ap, _∙_}
+use Prim.Native.Nat.{ℕ, _+_, _≤_, _<_}
 use native.Mathlib.Omega.{arith}
 use lib.Dec.{eqb, ltb}
 use lib.ListN.{length, getD, replicate, getD-replicate}
@@ -10,7 +10,8 @@ use borrow.Author.Tests.{eqb-true, eqb-false, lt-ltb, le-ltb, ltb-true, ltb-fals
 use Rattle.meaning.specs.Bytes.{bit}
 use Rattle.sets.proofs.Bits.{bit-zero}
 use Rattle.sets.proofs.Members.{none-due}
-use Rattle.priority.specs.Closed.{Spread}
+use Rattle.priority.specs.Closed.{Bare, Spread}
+use Rattle.priority.proofs.Round.{no-bit}
 
 -- What each transition of row u takes: u.
 abbrev pub takes : ℕ → ℕ → Bool
@@ -44,3 +45,11 @@ one-more rows above after u h before s t q ht hq =
 pub empty-row : (rows above : List ℕ) (u : ℕ) → u < 64 → length above ≡ 64 → Turned rows above u → getD rows u 0 ≡ 0 → Turned rows above (u + 1)
 empty-row rows above u h size before e =
     one-more rows above above u h before (record { size = size; holds = λ t j l. none-due above (getD rows u 0) (takes u) t j e })
+
+-- A bit stands before the end of the rows.
+pub before-end : {n : ℕ} {rows : List ℕ} → Bare n rows → (u t m : ℕ) → n ≤ m → u < 64 → (ltb u m && bit (getD rows u 0) t) ≡ bit (getD rows u 0) t
+before-end {n} {rows} e u t m h l = go (ltb u m) refl
+  where
+    go : (b : Bool) → ltb u m ≡ b → (b && bit (getD rows u 0) t) ≡ bit (getD rows u 0) t
+    go true q = refl
+    go false q = sym (no-bit e u t (omega (arith, ltb-false u m q)) l)

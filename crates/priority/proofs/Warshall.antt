@@ -1,18 +1,21 @@
 -- The closing in rounds: after the round over k, u stands above t exactly by a chain that passes only over transitions up to k, so that
 -- after all 64 rounds by any chain.
-use mathlib.Core.Bool.{Bool, true, _&&_, _||_}
+use mathlib.Core.Bool.{Bool, true, false, _&&_, _||_}
 use mathlib.Core.List.{List}
 use mathlib.Core.Logic.{⊎-elim}
-use mathlib.Core.Path.{_≡_, sym, ap, _∙_}
-use Prim.Native.Nat.{ℕ, zero, suc, _+_, _≤_, _<_}
-use native.Mathlib.Nat.{not-suc-le-zero}
+use mathlib.Core.Path.{_≡_, sym, ap, subst, _∙_}
+use Prim.Native.Nat.{ℕ, zero, suc, _+_, _-_, _≤_, _<_}
+use native.Mathlib.Nat.{not-suc-le-zero, add-zero}
 use native.Mathlib.Numerals.{add-one}
 use native.Mathlib.Omega.{arith}
-use lib.ListN.{getD}
+use lib.Dec.{ltb}
+use lib.ListN.{length, getD}
+use borrow.Author.Tests.{ltb-true, ltb-false}
 use Rattle.meaning.specs.Bytes.{bit}
-use Rattle.meaning.proofs.Bool.{and-left, and-right, and-true, or-true-left, or-true-right, or-cases}
+use Rattle.meaning.proofs.Bool.{either, and-left, and-right, and-true, or-true-left, or-true-right, or-cases}
 use Rattle.meaning.proofs.Below.{last}
-use Rattle.priority.specs.Closed.{Chain, pair, chain, Closed, Round}
+use Rattle.priority.specs.Closed.{Chain, pair, chain, Pairs-below, Closed, Bare, Round}
+use Rattle.priority.proofs.Round.{no-bit, emptied}
 
 -- By the first k rounds u stands above t.
 unfoldable pub via : List ℕ → ℕ → ℕ → ℕ → Bool
@@ -94,16 +97,34 @@ complete {index} (chain {u} {v} {t} a b) = joined index 64 u v t (ends a .1) (co
 abbrev pub Rounds : List ℕ → ℕ → List ℕ → Type 0
 Rounds index k rows = (u t : ℕ) → u < 64 → t < 64 → bit (getD rows u 0) t ≡ via index k u t
 
--- Rows that are copied have the written pairs, and one more round over k gives one more.
-pub copied : (index rows : List ℕ) → ((u : ℕ) → u < 64 → getD rows u 0 ≡ getD index (512 + u) 0) → Rounds index 0 rows
+-- Rows that are copied, and empty where no pair is written, have the written pairs.
+pub copied : {n : ℕ} {index rows : List ℕ} → Pairs-below n index → Bare n rows → ((u : ℕ) → u < n → getD rows u 0 ≡ getD index (512 + u) 0)
+    → Rounds index 0 rows
 unfolding via
-copied index rows f u t h i = ap (λ (x : ℕ). bit x t) (f u h)
+copied {n} {index} {rows} p e f u t h i =
+    ⊎-elim (λ (b : ltb u n ≡ true). ap (λ (x : ℕ). bit x t) (f u (ltb-true u n b)))
+    (λ (b : ltb u n ≡ false).
+    let past : n ≤ u = ltb-false u n b in
+    no-bit e u t past h ∙ sym (p .none u t past h i))
+    (either (ltb u n))
 
+-- One more round over k gives one more.
 pub rounded : (index : List ℕ) {rows next : List ℕ} {k : ℕ} → k < 64 → Rounds index k rows → Round rows k next → Rounds index (k + 1) next
 unfolding via
 rounded index {rows} {next} {k} l f r u t h i = r .over u t h i ∙ rw (f u t h i, f u k h l, f k t l i, add-one k)
 
--- Rows that have what the 64 rounds give are closed.
-pub closing : {index rows : List ℕ} → Rounds index 64 rows → Closed index rows
-closing {index} f =
+-- The rounds over empty rows change nothing.
+idle : {n : ℕ} (index : List ℕ) {rows : List ℕ} → length rows ≡ 64 → Bare n rows → Rounds index n rows → (d : ℕ) → n + d ≤ 64 → Rounds index (n + d) rows
+idle {n} index {rows} size e f zero h = λ u t. rw (add-zero n) (f u t)
+idle {n} index {rows} size e f (suc d) h =
+    let low : n + d < 64 = omega arith in
+    let next : n + d + 1 ≡ n + suc d = omega arith in
+    subst (λ (k : ℕ). Rounds index k rows) next
+    (rounded index low (idle index size e f d (omega arith)) (emptied rows (n + d) size (e .none (n + d) (omega arith) low)))
+
+-- Rows that have what the rounds give up to their end are closed.
+pub closing : {n : ℕ} {index rows : List ℕ} → length rows ≡ 64 → Bare n rows → Rounds index n rows → Closed index rows
+closing {n} {index} {rows} size e g =
+    let rest : n + (64 - n) ≡ 64 = omega (arith, e .most) in
+    let f : Rounds index 64 rows = subst (λ (k : ℕ). Rounds index k rows) rest (idle index size e g (64 - n) (omega arith)) in
     record { holds = λ u t h i. (λ e. sound index 64 (omega arith) u t h i (sym (f u t h i) ∙ e), λ w. f u t h i ∙ complete w) }

@@ -1,9 +1,9 @@
 -- The closed rows are the transitive closure of the written ones.
-use mathlib.Core.Bool.{true, _&&_, _||_}
+use mathlib.Core.Bool.{true, false, _&&_, _||_}
 use mathlib.Core.List.{List}
 use mathlib.Core.Logic.{_↔_}
 use mathlib.Core.Path.{_≡_}
-use Prim.Native.Nat.{ℕ, _+_, _<_}
+use Prim.Native.Nat.{ℕ, _+_, _≤_, _<_}
 use lib.Dec.{ltb, eqb}
 use lib.ListN.{length, getD}
 use Rattle.meaning.specs.Bytes.{bit}
@@ -15,6 +15,16 @@ pub data Chain (index : List ℕ) : ℕ → ℕ → Type 0 where
 
 pub record Closed (index rows : List ℕ) : Type 0 where
   pub holds : (u t : ℕ) → u < 64 → t < 64 → (bit (getD rows u 0) t ≡ true) ↔ Chain index u t
+
+-- No written pair has a higher transition from n on.
+pub record Pairs-below (n : ℕ) (index : List ℕ) : Type 0 where
+  pub most : n ≤ 64
+  pub none : (u t : ℕ) → n ≤ u → u < 64 → t < 64 → bit (getD index (512 + u) 0) t ≡ false
+
+-- The rows from n on are empty.
+pub record Bare (n : ℕ) (rows : List ℕ) : Type 0 where
+  pub most : n ≤ 64
+  pub none : (u : ℕ) → n ≤ u → u < 64 → getD rows u 0 ≡ 0
 
 -- One round: the rows after it have what they had, and over k all that k's row had.
 pub record Round (rows : List ℕ) (k : ℕ) (next : List ℕ) : Type 0 where

@@ -1,6 +1,6 @@
 // The report of a cycle: three sets of 64 numbers, the transitions that fired, the active actions and the executed functions.
 use places::Places;
-ghost use mathlib.Core.Bool.{not, _&&_};
+ghost use mathlib.Core.Bool.{false, not, _&&_};
 ghost use mathlib.Core.List.{_++_};
 ghost use mathlib.Core.Path.{_≡_};
 ghost use Prim.Native.Nat.{ℕ, _+_, _<_, _≤_};
@@ -9,15 +9,17 @@ ghost use lib.ListN.{length, getD, take, drop};
 ghost use Rattle.meaning.specs.Below.{some};
 ghost use Rattle.meaning.specs.Bytes.{bit, bytes};
 ghost use Rattle.places.specs.Set.{has};
+ghost use Rattle.table.specs.Index.{Reaches};
 
-// Which of 64 rows of the index, from the first on, are not empty.
-fn filled(index: &[u64; 768], from: usize) -> u64
-    requires { ⌜ from ≤ 704 ⌝ }
+// Which of 64 rows of the index, from the first on, are not empty. Of these, the rows from `count` on are empty.
+fn filled(index: &[u64], from: usize, count: usize) -> u64
+    requires { ⌜ (length (now index) ≡ 768) × (from ≤ 704) × (count ≤ 64) ⌝ }
+    requires { ⌜ ((i y : ℕ) → count ≤ i → i < 64 → y < 64 → bit (getD (now index) (from + i) 0) y ≡ false) ⌝ }
     ensures { λ r. ⌜ ((i : ℕ) → i < 64 → bit r i ≡ not (eqb (getD (now (index .entry)) (from + i) 0) 0)) ⌝ }
 {
     let mut r = 0u64;
     let mut i = 0;
-    while i < 64 {
+    while i < count {
         if index[from + i] != 0 {
             r = sets::with(r, i);
         }
@@ -26,13 +28,15 @@ fn filled(index: &[u64; 768], from: usize) -> u64
     r
 }
 
-// The places that have actions.
-pub fn acting(index: &[u64; 768]) -> Places
+// The places that have actions. The index goes no further than n.
+pub fn acting(index: &[u64; 768], n: usize) -> Places
+    requires { ⌜ Reaches (now index) n ⌝ }
     ensures { λ x. ⌜ ((p : ℕ) → p < 128 → has x p ≡ not (eqb (getD (now (index .entry)) (576 + p) 0) 0)) ⌝ }
 {
+    let low = table::transitions(n);
     Places {
-        low: filled(index, 576),
-        high: filled(index, 640),
+        low: filled(index, 576, low),
+        high: filled(index, 640, n - low),
     }
 }
 

@@ -8,7 +8,7 @@ use native.Mathlib.Omega.{arith}
 use lib.Dec.{eqb, eqb·zero-suc, eqb·suc-zero, eqb·suc-suc}
 use lib.Arith.{lt-one, digits-mod}
 use lib.Pow.{pow-mono, shl-exact}
-use lib.Bits.{bitOr, bitAnd, or-step, or-shr, or-shifted, and-step, and-shr}
+use lib.Bits.{bitOr, bitAnd, or-step, or-shr, or-shifted, and-step, and-shr, and-le-l}
 use lib.Count.{trailingZeros, under, trailing-le}
 use borrow.Author.Tests.{eqb-true, eq-eqb, ne-eqb}
 use Rattle.meaning.specs.Below.{some, sum, first}
@@ -49,6 +49,13 @@ digit-and : (x y : ℕ) → x < 2 → y < 2 → eqb (min x y) 1 ≡ (eqb x 1 && 
 digit-and zero y h l = rw zero-min
 digit-and (suc zero) y h l = ap (λ (x : ℕ). eqb x 1) (min-eq-right (le-of-suc-le-suc l))
 digit-and (suc (suc x)) y h l = no-digit h
+
+digit-apart : (x y : ℕ) → x < 2 → y < 2 → eqb (x - min x y) 1 ≡ (eqb x 1 && not (eqb y 1))
+digit-apart zero y h l = rw zero-min
+digit-apart (suc zero) zero h l = refl
+digit-apart (suc zero) (suc zero) h l = refl
+digit-apart (suc zero) (suc (suc y)) h l = no-digit l
+digit-apart (suc (suc x)) y h l = no-digit h
 
 -- The lowest digit of an or is the larger of the two, and of an and the smaller.
 or-low : (a b : ℕ) → bitOr a b % 2 ≡ max (a % 2) (b % 2)
@@ -198,6 +205,17 @@ bit-less (suc k) a (suc j) e =
     let least : 2 ^ suc k ≤ a = bit-least a (suc k) e in
     let half : (a - 2 ^ suc k) / 2 ≡ a / 2 - 2 ^ k = omega (arith, pow-suc 2 k) in
     bit-high (a - 2 ^ suc k) j ∙ rw (half, eqb·suc-suc k j, bit-high a j) (bit-less k (a / 2) j (sym (bit-high a k) ∙ e))
+
+-- A number less what it shares with another has what the other lacks.
+pub bit-apart : (a b j : ℕ) → bit (a - bitAnd a b) j ≡ (bit a j && not (bit b j))
+bit-apart a b zero = bit-low (a - bitAnd a b) ∙ rw (bit-low a, bit-low b, low) (digit-apart (a % 2) (b % 2) (digit-low a) (digit-low b))
+  where
+    low : (a - bitAnd a b) % 2 ≡ a % 2 - min (a % 2) (b % 2)
+    low = omega (arith, and-step a b, and-le-l (a / 2) (b / 2), min-le-left (a % 2) (b % 2))
+bit-apart a b (suc j) = bit-high (a - bitAnd a b) j ∙ rw (bit-high a j, bit-high b j, half) (bit-apart (a / 2) (b / 2) j)
+  where
+    half : (a - bitAnd a b) / 2 ≡ a / 2 - bitAnd (a / 2) (b / 2)
+    half = omega (arith, and-step a b, and-le-l (a / 2) (b / 2), min-le-left (a % 2) (b % 2))
 
 -- What lacks k has the rest already.
 pub bit-lacks : (k a j : ℕ) → bit a k ≡ false → bit a j ≡ (bit a j && not (eqb k j))

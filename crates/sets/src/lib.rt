@@ -41,6 +41,13 @@ pub fn without(s: u64, k: usize) -> u64
     if has(s, k) { s - (1 << k) } else { s }
 }
 
+// s less all that is in t.
+pub fn less(s: u64, t: u64) -> u64
+    ensures { λ r. ⌜ ((j : ℕ) → bit r j ≡ (bit s j && not (bit t j))) ⌝ }
+{
+    s - (s & t)
+}
+
 // The lowest number in s, or 64 if there is none.
 pub fn lowest(s: u64) -> usize
     ensures { λ r. ⌜ r ≡ first 64 (bit s) ⌝ }

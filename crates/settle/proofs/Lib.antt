@@ -1,2 +1,2 @@
--- What weighing says where no place is overfull.
-pub mod Little
+-- From the arrays to the table: whom the places starve.
+pub mod Carry

@@ -20,7 +20,7 @@ use Rattle.meaning.proofs.Same.{of-kind, shown-place, shown-transition}
 use Rattle.meaning.proofs.Faults.{faultless}
 use Rattle.table.specs.declared.Pass.{Pass}
 use Rattle.table.specs.Index.{row, Indexed, Scanned, has-place, has-transition, unknown-test, names-unknown-at, none-of, lone}
-use Rattle.table.proofs.Rows.{base, width, kind-of, Spot, spot, two-low, row-test, within, beq-true, class-is}
+use Rattle.table.proofs.Rows.{base, width, kind-of, Spot, spot, one-low, two-low, row-test, within, beq-true, class-is}
 use Rattle.table.proofs.Firsts.{arc-bit}
 
 -- No record has a fault, and the rows hold them all.
@@ -97,18 +97,7 @@ either-arc true true = refl
 either-arc true false = refl
 either-arc false s = refl
 
--- Byte 1 is below 128, and below 64 where it names a transition.
-one-low : {k o t s f x : ℕ} → Shown k o t s f x → o < 128
-one-low (Shown.place a b) = omega arith
-one-low (Shown.untimed a) = omega arith
-one-low (Shown.between a b c d) = omega arith
-one-low (Shown.from a b c) = omega arith
-one-low (Shown.arc a b c d e) = omega arith
-one-low (Shown.condition a b c) = omega arith
-one-low (Shown.priority a b) = omega arith
-one-low (Shown.action a b) = omega arith
-one-low (Shown.function a b) = omega arith
-
+-- Byte 1 is below 64 where it names a transition.
 named-low : {k o t s f x : ℕ} → Shown k o t s f x → (eqb k 4 || eqb k 5 || eqb k 7) ≡ true → o < 64
 named-low (Shown.place a b) e = not-both e refl
 named-low (Shown.untimed a) e = omega arith
@@ -141,7 +130,7 @@ clean-of tb s rows h e = go (ltb (s .at) (tb .records)) refl
 
 module _ {tb : Table} {rows : List ℕ} (clean : Clean tb rows) where
   -- Each record is shown.
-  shown : (r : ℕ) → r < tb .records → Shows tb r
+  pub shown : (r : ℕ) → r < tb .records → Shows tb r
   unfolding faulty
   shown r h = faultless tb r (rw (clean .fine r h)) .0
 

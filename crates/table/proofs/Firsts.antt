@@ -3,7 +3,7 @@ use mathlib.Core.Bool.{Bool, true, false, cond, not, _&&_, _||_}
 use mathlib.Core.List.{List}
 use mathlib.Core.Logic.{⊎-elim}
 use mathlib.Core.Path.{_≡_, refl, sym, ap, _∙_}
-use Prim.Native.Nat.{ℕ, _+_, _-_, _^_, _<_}
+use Prim.Native.Nat.{ℕ, _+_, _-_, _^_, _≤_, _<_}
 use native.Mathlib.Nat.{zero-add, eq-or-lt-of-le}
 use native.Mathlib.Numerals.{add-one}
 use native.Mathlib.Omega.{arith}
@@ -13,12 +13,12 @@ use borrow.Author.Tests.{lt-ltb, le-ltb, ltb-true, ltb-false}
 use Rattle.meaning.specs.Below.{some, first}
 use Rattle.meaning.specs.Table.{Table}
 use Rattle.meaning.specs.Bytes.{bit}
-use Rattle.meaning.proofs.Bool.{either}
-use Rattle.meaning.proofs.Below.{last, some-same, first-le, first-passes, first-before, first-is, first-none, first-same}
+use Rattle.meaning.proofs.Bool.{either, not-both, same-test}
+use Rattle.meaning.proofs.Below.{last, some-intro, some-elim, some-same, first-le, first-passes, first-before, first-is, first-none, first-same}
 use Rattle.sets.proofs.Bits.{zero-set}
 use Rattle.records.specs.declared.Rec.{Rec}
 use Rattle.records.specs.Record.{Reads}
-use Rattle.table.specs.Index.{has-transition, unknown-test, names-unknown, names-unknown-at, none-of, lone}
+use Rattle.table.specs.Index.{Reaches, transitions-below, has-transition, unknown-test, names-unknown, names-unknown-at, none-of, lone}
 
 -- What holds below i and at i holds below i + 1, where a test fails.
 pub none-more : (i : ℕ) (p : ℕ → Bool) → ((k : ℕ) → k < i → p k ≡ false) → p i ≡ false → (k : ℕ) → k < i + 1 → p k ≡ false
@@ -27,6 +27,35 @@ none-more i p f e k h = ⊎-elim (λ (q : k ≡ i). ap p q ∙ e) (f k) (last (r
 -- And nothing is below 0.
 pub none-yet : (p : ℕ → Bool) (k : ℕ) → k < 0 → p k ≡ false
 none-yet p k h = absurd (omega arith)
+
+-- Where none from n on passes, some below m passes exactly if some below n does.
+pub some-short : (n m : ℕ) (p : ℕ → Bool) → n ≤ m → ((k : ℕ) → n ≤ k → k < m → p k ≡ false) → some n p ≡ some m p
+some-short n m p h f =
+    same-test (some n p) (some m p)
+    (λ e.
+    let w = some-elim n p e in
+    some-intro m p (w .0) (omega (arith, w .1)) (w .2))
+    (λ e.
+    let w = some-elim m p e in
+    ⊎-elim (λ (t : ltb (w .0) n ≡ true). some-intro n p (w .0) (ltb-true (w .0) n t) (w .2))
+    (λ (t : ltb (w .0) n ≡ false). not-both (w .2) (f (w .0) (ltb-false (w .0) n t) (w .1)))
+    (either (ltb (w .0) n)))
+
+-- What is at or past the number of transitions below n, and a transition, is at or past n.
+pub past-transitions : (n i : ℕ) → transitions-below n ≤ i → i < 64 → n ≤ i
+past-transitions n i = go (ltb n 64) refl
+  where
+    go : (b : Bool) → ltb n 64 ≡ b → cond b n 64 ≤ i → i < 64 → n ≤ i
+    go true e h l = h
+    go false e h l = absurd (omega arith)
+
+-- There are no more than 64.
+pub few-transitions : (n : ℕ) → transitions-below n ≤ 64
+few-transitions n = go (ltb n 64) refl
+  where
+    go : (b : Bool) → ltb n 64 ≡ b → cond b n 64 ≤ 64
+    go true e = omega (arith, ltb-true n 64 e)
+    go false e = omega arith
 
 -- WHAT A RECORD NAMES
 
@@ -73,10 +102,20 @@ module _ (rows : List ℕ) (x : Rec) {o t : ℕ} (o-is : o ≡ x .one) (t-is : t
 -- IS THERE NONE
 
 -- No place comes before no transition.
-pub none-first : (rows : List ℕ) (a b : Bool) → a ≡ not (some 128 (λ i. bit (getD rows (0 + i) 0) 0))
-    → b ≡ not (some 64 (λ i. bit (getD rows (128 + i) 0) 0)) → cond a 0 (cond b 1 2) ≡ first 2 (none-of rows)
+pub none-first : (rows : List ℕ) (n m : ℕ) → Reaches rows n → m ≡ transitions-below n → (a b : Bool)
+    → a ≡ not (some n (λ i. bit (getD rows (0 + i) 0) 0)) → b ≡ not (some m (λ i. bit (getD rows (128 + i) 0) 0))
+    → cond a 0 (cond b 1 2) ≡ first 2 (none-of rows)
 unfolding none-of
-none-first rows a b p q = go a b (p ∙ ap not (some-same 128 _ _ (λ i h. ap (λ (n : ℕ). bit (getD rows n 0) 0) (zero-add i)))) q
+none-first rows n m reach few a b p q =
+    go a b
+    (p
+    ∙ ap not
+    (some-short n 128 _ (reach .most) (λ i h l. reach .no-row 0 i 0 (omega arith) h l (omega arith))
+    ∙ some-same 128 _ _ (λ i h. ap (λ (n : ℕ). bit (getD rows n 0) 0) (zero-add i))))
+    (q
+    ∙ ap not
+    (some-short m 64 _ (omega (arith, few, few-transitions n))
+    (λ i h l. reach .no-row 1 i 0 (omega arith) (past-transitions n i (omega arith) l) l (omega arith))))
   where
     go : (a b : Bool) → a ≡ none-of rows 0 → b ≡ none-of rows 1 → cond a 0 (cond b 1 2) ≡ first 2 (none-of rows)
     go true b e f = sym (first-is 2 (none-of rows) 0 (omega arith) (sym e) (none-yet (none-of rows)))
@@ -105,12 +144,24 @@ unfolding some
 more-arcs rows p all arcs joined f g h t = h t ∙ rw (add-one p, f t, g t)
 
 -- A transition is alone if its row has its bit and no arc's row has it.
-pub lone-transition : (rows : List ℕ) (t all : ℕ) → ((t : ℕ) → bit all t ≡ some 128 (λ p. arc-bit rows p t))
+pub lone-transition : (rows : List ℕ) (t all : ℕ) → bit all t ≡ some 128 (λ p. arc-bit rows p t)
     → (has-transition rows t && not (bit all t)) ≡ lone rows (128 + t)
 unfolding lone
 lone-transition rows t all e =
     let less : 128 + t - 128 ≡ t = omega arith in
-    rw (le-ltb (128 + t) 128 (omega arith), less, e t)
+    rw (le-ltb (128 + t) 128 (omega arith), less, e)
+
+-- With none below n alone, none is: past n there is none.
+pub none-left : (rows : List ℕ) (n m arcs : ℕ) → Reaches rows n → transitions-below n ≤ m
+    → ((k : ℕ) → k < m → (has-transition rows k && not (bit arcs k)) ≡ false)
+    → 64 ≡ first 64 (λ t. has-transition rows t && not (bit arcs t))
+none-left rows n m arcs reach few f =
+    sym
+    (first-none 64 _
+    (λ k h.
+    ⊎-elim (λ (t : ltb k m ≡ true). f k (ltb-true k m t))
+    (λ (t : ltb k m ≡ false). rw (reach .no-row 1 k 0 (omega arith) (past-transitions n k (omega (arith, ltb-false k m t)) h) h (omega arith)))
+    (either (ltb k m))))
 
 -- The first past candidates that do not pass.
 pub first-after : (m n : ℕ) (p : ℕ → Bool) → ((k : ℕ) → k < m → p k ≡ false) → m + first n (λ k. p (m + k)) ≡ first (m + n) p
@@ -129,10 +180,20 @@ first-after m n p f =
     (eq-or-lt-of-le (first-le n q))
 
 -- With no place alone, the first that is alone is a transition.
-pub lone-first : (rows : List ℕ) (p all : ℕ) → p ≡ 128 → ((k : ℕ) → k < p → lone rows k ≡ false)
+pub lone-first : (rows : List ℕ) (n p all : ℕ) → Reaches rows n → p ≡ n → ((k : ℕ) → k < p → lone rows k ≡ false)
     → ((t : ℕ) → bit all t ≡ some p (λ p. arc-bit rows p t))
     → 128 + first 64 (λ t. has-transition rows t && not (bit all t)) ≡ first 192 (lone rows)
-lone-first rows p all e f g =
-    let whole : (t : ℕ) → bit all t ≡ some 128 (λ p. arc-bit rows p t) = λ t. g t ∙ ap (λ (n : ℕ). some n (λ p. arc-bit rows p t)) e in
-    ap (λ (n : ℕ). 128 + n) (first-same 64 _ _ (λ t h. lone-transition rows t all whole))
-    ∙ first-after 128 64 (lone rows) (λ k h. f k (omega arith))
+unfolding lone
+lone-first rows n p all reach e f g =
+    let whole : (t : ℕ) → t < 64 → bit all t ≡ some 128 (λ p. arc-bit rows p t) =
+    λ t h.
+    g t ∙ ap (λ (n : ℕ). some n (λ p. arc-bit rows p t)) e
+    ∙ some-short n 128 (λ p. arc-bit rows p t) (reach .most)
+    (λ p l m. rw (reach .no-row 2 p t (omega arith) l m h, reach .no-row 3 p t (omega arith) l m h)) in
+    let none : (k : ℕ) → n ≤ k → k < 128 → lone rows k ≡ false =
+    λ k l m. rw (lt-ltb k 128 m, ap (λ (q : ℕ). bit (getD rows q 0) 0) (sym (zero-add k)) ∙ reach .no-row 0 k 0 (omega arith) l m (omega arith)) in
+    ap (λ (n : ℕ). 128 + n) (first-same 64 _ _ (λ t h. lone-transition rows t all (whole t h)))
+    ∙ first-after 128 64 (lone rows)
+    (λ k h.
+    ⊎-elim (λ (t : ltb k n ≡ true). f k (omega (arith, ltb-true k n t))) (λ (t : ltb k n ≡ false). none k (ltb-false k n t) h)
+    (either (ltb k n)))

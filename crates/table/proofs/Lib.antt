@@ -3,3 +3,4 @@ pub mod Rows
 pub mod Passed
 pub mod Firsts
 pub mod Carry
+pub mod Reach

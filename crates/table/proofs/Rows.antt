@@ -20,16 +20,11 @@ use Rattle.meaning.proofs.Shows.{Shows}
 use Rattle.sets.proofs.Bits.{bit-zero}
 use Rattle.meaning.proofs.Walk.{compared}
 use Rattle.table.specs.Index.{block, row, Indexed}
+pub use Rattle.table.specs.Index.{base, width}
 
--- THE EIGHT CLASSES OF RECORDS: places, transitions, input arcs, post arcs, conditions, priorities, actions, functions
+-- THE EIGHT CLASSES OF RECORDS
 
--- The first row of a class's block, its width, and the class's kind.
-abbrev pub base : ℕ → ℕ
-base c = getD (0 ∷ 128 ∷ 192 ∷ 320 ∷ 448 ∷ 512 ∷ 576 ∷ 704 ∷ []) c 0
-
-abbrev pub width : ℕ → ℕ
-width c = getD (128 ∷ 64 ∷ 128 ∷ 128 ∷ 64 ∷ 64 ∷ 128 ∷ 64 ∷ []) c 0
-
+-- A class's kind.
 abbrev pub kind-of : ℕ → ℕ
 kind-of c = getD (1 ∷ 2 ∷ 3 ∷ 3 ∷ 4 ∷ 5 ∷ 6 ∷ 7 ∷ []) c 0
 
@@ -45,7 +40,7 @@ pub record Spot (k o s : ℕ) : Type 0 where
 at : {k o s : ℕ} (c : ℕ) → c < 8 → block k s ≡ base c → o < width c → k ≡ kind-of c → (eqb k 3 && eqb s 3) ≡ eqb c 3 → Spot k o s
 at c l b f k p = record { class = c; low = l; base-is = b; fits = f; kind-is = k; post-is = p }
 
--- What the page shows has its spot, and its byte 2 is below 64.
+-- What the page shows has its spot, its byte 1 is below 128 and its byte 2 below 64.
 pub spot : {k o t s f x : ℕ} → Shown k o t s f x → Spot k o s
 unfolding block
 spot (Shown.place a b) = at 0 (omega arith) refl (omega arith) refl refl
@@ -61,6 +56,17 @@ spot (Shown.condition a b c) = at 4 (omega arith) refl (omega arith) refl refl
 spot (Shown.priority a b) = at 5 (omega arith) refl (omega arith) refl refl
 spot (Shown.action a b) = at 6 (omega arith) refl (omega arith) refl refl
 spot (Shown.function a b) = at 7 (omega arith) refl (omega arith) refl refl
+
+pub one-low : {k o t s f x : ℕ} → Shown k o t s f x → o < 128
+one-low (Shown.place a b) = omega arith
+one-low (Shown.untimed a) = omega arith
+one-low (Shown.between a b c d) = omega arith
+one-low (Shown.from a b c) = omega arith
+one-low (Shown.arc a b c d e) = omega arith
+one-low (Shown.condition a b c) = omega arith
+one-low (Shown.priority a b) = omega arith
+one-low (Shown.action a b) = omega arith
+one-low (Shown.function a b) = omega arith
 
 pub two-low : {k o t s f x : ℕ} → Shown k o t s f x → t < 64
 two-low (Shown.place a b) = omega arith

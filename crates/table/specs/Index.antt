@@ -1,8 +1,8 @@
 -- The index: a row of 64 bits for each kind and byte 1, with input and post arcs apart; bit y of a row is a record with byte 2 at y.
-use mathlib.Core.Bool.{Bool, cond, not, _&&_, _||_}
+use mathlib.Core.Bool.{Bool, false, cond, not, _&&_, _||_}
 use mathlib.Core.List.{List, [], _∷_}
 use mathlib.Core.Path.{_≡_}
-use Prim.Native.Nat.{ℕ, _+_, _-_, _<_}
+use Prim.Native.Nat.{ℕ, zero, suc, _+_, _-_, _≤_, _<_}
 use lib.Dec.{ltb, eqb}
 use lib.ListN.{getD}
 use Rattle.meaning.specs.Below.{some, first}
@@ -31,11 +31,40 @@ row-of x = cond (ltb 7 (x .kind)) 0 (block (x .kind) (x .sort) + x .one)
 pub record Indexed (tb : Table) (n : ℕ) (rows : List ℕ) : Type 0 where
   pub holds : (q y : ℕ) → q < 768 → y < 64 → bit (getD rows q 0) y ≡ some n (λ r. eqb (row tb r) q && eqb (tb .two r) y)
 
--- What the pass leaves: the place of the first record that meets 2, 3 or 4, its number, and the records before it in the rows.
+-- The larger of two numbers, and the highest byte 1 or byte 2 of the first n records, 0 where there is none.
+abbrev pub larger-of : ℕ → ℕ → ℕ
+larger-of a b = cond (ltb a b) b a
+
+unfoldable pub top : Table → ℕ → ℕ
+top tb zero = 0
+top tb (suc n) = larger-of (larger-of (top tb n) (tb .one n)) (tb .two n)
+
+-- What the pass leaves: the place of the first record that meets 2, 3 or 4, its number, one more than the highest byte 1 or 2 of the records
+-- before it, and these records in the rows.
 pub record Scanned (tb : Table) (s : Pass) (rows : List ℕ) : Type 0 where
   pub at : s .at ≡ first (tb .records) (faulty tb)
   pub number : s .number ≡ cond (ltb (s .at) (tb .records)) (fault tb (s .at)) 0
+  pub reach : s .reach ≡ suc (top tb (s .at))
   pub index : Indexed tb (s .at) rows
+
+-- THE EIGHT CLASSES OF RECORDS: places, transitions, input arcs, post arcs, conditions, priorities, actions, functions
+
+-- The first row of a class's block, and how many rows it has.
+abbrev pub base : ℕ → ℕ
+base c = getD (0 ∷ 128 ∷ 192 ∷ 320 ∷ 448 ∷ 512 ∷ 576 ∷ 704 ∷ []) c 0
+
+abbrev pub width : ℕ → ℕ
+width c = getD (128 ∷ 64 ∷ 128 ∷ 128 ∷ 64 ∷ 64 ∷ 128 ∷ 64 ∷ []) c 0
+
+-- The index goes no further than n: from n on the rows of each class are empty, and no row has a bit from n on.
+pub record Reaches (rows : List ℕ) (n : ℕ) : Type 0 where
+  pub most : n ≤ 128
+  pub no-row : (c i y : ℕ) → c < 8 → n ≤ i → i < width c → y < 64 → bit (getD rows (base c + i) 0) y ≡ false
+  pub no-bit : (q y : ℕ) → q < 768 → n ≤ y → y < 64 → bit (getD rows q 0) y ≡ false
+
+-- Of the numbers below n, how many a transition can have.
+abbrev pub transitions-below : ℕ → ℕ
+transitions-below n = cond (ltb n 64) n 64
 
 -- The index has place p; transition t.
 abbrev pub has-place : List ℕ → ℕ → Bool

@@ -8,7 +8,7 @@ ghost use lib.ListN.{getD, replicate};
 ghost use Rattle.meaning.specs.Below.{some, first};
 ghost use Rattle.meaning.specs.Bytes.{bit};
 ghost use Rattle.meaning.specs.Table.{table};
-ghost use Rattle.table.specs.Index.{plain-blocks, block, row-of, Scanned, has-transition, names-unknown, none-of, lone};
+ghost use Rattle.table.specs.Index.{plain-blocks, block, row-of, larger-of, Scanned, Reaches, transitions-below, has-transition, names-unknown, none-of, lone};
 
 // The first row of each kind's block: places, transitions, input arcs, conditions, priorities, actions, functions. Row 320 begins the post arcs.
 const BLOCK: [usize; 8] = [0, 0, 128, 192, 448, 512, 576, 704];
@@ -50,10 +50,19 @@ fn row(x: Rec, blocks: &[usize; 8]) -> usize
     start(kind, x.sort, blocks) + records::wide(x.one)
 }
 
-// What the pass found: at the first record that meets 2, 3 or 4 its number, else number 0 and at the number of records.
+// The larger of two numbers.
+fn larger(a: usize, b: usize) -> usize
+    ensures { λ r. ⌜ r ≡ larger-of a b ⌝ }
+{
+    if a < b { b } else { a }
+}
+
+// What the pass found: at the first record that meets 2, 3 or 4 its number, else number 0 and at the number of records; and one
+// more than the highest byte 1 or byte 2 of the records before it.
 pub struct Pass {
     pub number: u8,
     pub at: usize,
+    pub reach: usize,
 }
 
 // Each record in order is tested for 2, 3 and 4; one that says what an earlier one said finds its bit set. The rows are lent empty, and hold
@@ -65,23 +74,47 @@ pub fn scan(t: &[u8], rows: &mut [u64; 768]) -> Pass
     let n = t.len() / 8;
     let kinds = records::kinds();
     let blocks = blocks();
+    let mut top = 0;
     let mut r = 0;
     while r < n {
         let x = records::read(t, r);
         let f = records::fault(x, &kinds);
         if f != 0 {
-            return Pass { number: f, at: r };
+            let reach = top + 1;
+            return Pass {
+                number: f,
+                at: r,
+                reach,
+            };
         }
         let q = row(x, &blocks);
         let two = records::wide(x.two);
         let line = rows[q];
         if sets::has(line, two) {
-            return Pass { number: 4, at: r };
+            let reach = top + 1;
+            return Pass {
+                number: 4,
+                at: r,
+                reach,
+            };
         }
         rows[q] = sets::with(line, two);
+        top = larger(larger(top, records::wide(x.one)), two);
         r += 1;
     }
-    Pass { number: 0, at: n }
+    let reach = top + 1;
+    Pass {
+        number: 0,
+        at: n,
+        reach,
+    }
+}
+
+// Of the numbers below n, how many a transition can have: n, but no more than 64.
+pub fn transitions(n: usize) -> usize
+    ensures { λ r. ⌜ r ≡ transitions-below n ⌝ }
+{
+    if n < 64 { n } else { 64 }
 }
 
 // Does row q lack its bit 0, by which a place or a transition is declared?
@@ -138,14 +171,15 @@ fn none_in(rows: &[u64; 768], from: usize, count: usize) -> bool
     true
 }
 
-// 0 if the index has no place, else 1 if it has no transition, else 2.
-pub fn first_none(rows: &[u64; 768]) -> usize
+// 0 if the index has no place, else 1 if it has no transition, else 2. None is at n or past it.
+pub fn first_none(rows: &[u64; 768], n: usize) -> usize
+    requires { ⌜ Reaches (now rows) n ⌝ }
     ensures { λ r. ⌜ r ≡ first 2 (none-of (now (rows .entry))) ⌝ }
 {
-    if none_in(rows, 0, 128) {
+    if none_in(rows, 0, n) {
         return 0;
     }
-    if none_in(rows, 128, 64) {
+    if none_in(rows, 128, transitions(n)) {
         return 1;
     }
     2
@@ -169,12 +203,14 @@ fn transition_alone(line: u64, arcs: u64, t: usize) -> bool
     }
 }
 
-// The first transition that is not among those at which there is an arc, or 64.
-fn first_transition(rows: &[u64; 768], arcs: u64) -> usize
+// The first transition that is not among those at which there is an arc, or 64. None is at n or past it.
+fn first_transition(rows: &[u64; 768], arcs: u64, n: usize) -> usize
+    requires { ⌜ Reaches (now rows) n ⌝ }
     ensures { λ r. ⌜ r ≡ first 64 (λ t. has-transition (now (rows .entry)) t && not (bit arcs t)) ⌝ }
 {
+    let most = transitions(n);
     let mut t = 0;
-    while t < 64 {
+    while t < most {
         if transition_alone(rows[128 + t], arcs, t) {
             return t;
         }
@@ -183,13 +219,14 @@ fn first_transition(rows: &[u64; 768], arcs: u64) -> usize
     64
 }
 
-// The first place with no arc, else 128 and the first transition with no arc, else 192.
-pub fn first_lone(rows: &[u64; 768]) -> usize
+// The first place with no arc, else 128 and the first transition with no arc, else 192. None is at n or past it.
+pub fn first_lone(rows: &[u64; 768], n: usize) -> usize
+    requires { ⌜ Reaches (now rows) n ⌝ }
     ensures { λ r. ⌜ r ≡ first 192 (lone (now (rows .entry))) ⌝ }
 {
     let mut all: u64 = 0;
     let mut p = 0;
-    while p < 128 {
+    while p < n {
         let arcs = sets::union(rows[192 + p], rows[320 + p]);
         if place_alone(rows[p], arcs) {
             return p;
@@ -197,5 +234,5 @@ pub fn first_lone(rows: &[u64; 768]) -> usize
         all = sets::union(all, arcs);
         p += 1;
     }
-    128 + first_transition(rows, all)
+    128 + first_transition(rows, all, n)
 }

@@ -3,7 +3,8 @@
 use mathlib.Core.Bool.{true, false}
 use mathlib.Core.Logic.{⊎-elim}
 use mathlib.Core.Path.{_≡_, sym, _∙_}
-use Prim.Native.Nat.{ℕ, _<_}
+use Prim.Native.Nat.{ℕ, _≤_, _<_}
+use native.Mathlib.Omega.{arith}
 use lib.Dec.{eqb}
 use lib.ListN.{getD}
 use borrow.Author.Tests.{eqb-true, eq-eqb}
@@ -11,6 +12,7 @@ use Rattle.meaning.specs.Below.{some}
 use Rattle.meaning.specs.Table.{Table, is, declared, timing, a-of, b-of}
 use Rattle.meaning.proofs.Bool.{either, and-left, and-right, and-true, not-both}
 use Rattle.meaning.proofs.Below.{some-elim, none-elim}
+use Rattle.meaning.proofs.Reflect.{not-true-false}
 use Rattle.meaning.proofs.Sound.{Sound-table, declared-none, transition-column, transition-once}
 use Rattle.net.specs.Rows.{latest}
 use Rattle.net.proofs.Carry.{latest-is, latest-none}
@@ -53,3 +55,15 @@ module _ (tb : Table) (sound : Sound-table tb) where
 
     pub b-is : getD (x .b) t 0 ≡ b-of tb t
     b-is = g .b t h ∙ last-declared t (tb .six)
+
+-- Where every record's byte 1 is below n, no record declares a transition from n on, whose sort, a and b are 0.
+pub untimed : {tb : Table} {x : Intervals} {n : ℕ} → Times-of tb x → ((r : ℕ) → r < tb .records → tb .one r < n) → (t : ℕ) → n ≤ t → t < 64
+    → (getD (x .sorts) t 0 ≡ 0) × (getD (x .a) t 0 ≡ 0) × (getD (x .b) t 0 ≡ 0)
+untimed {tb} {x} {n} g below t h l = (g .sorts t l ∙ none (tb .sort), g .a t l ∙ none (tb .four), g .b t l ∙ none (tb .six))
+  where
+    none : (f : ℕ → ℕ) → latest (tb .records) (declares tb t) f ≡ 0
+    none f =
+        latest-none (tb .records) (declares tb t) f
+        (λ r b.
+        not-true-false (declares tb t r)
+        (λ e. omega (arith, below r b, eqb-true (tb .one r) t (and-right (is tb 2 r) (eqb (tb .one r) t) e))))

@@ -1,120 +1,107 @@
--- `firable` meets its contract: each turn decides the lowest transition that is left, and goes on to the next.
-use mathlib.Core.Bool.{false}
-use mathlib.Core.List.{List}
+-- `firable` meets its contract: the walk takes out whoever has a condition that is not as wanted, and who has none is as wanted.
+use mathlib.Core.Bool.{Bool, true, false, not, _&&_, _||_, and-true}
 use mathlib.Core.Logic.{⊎-elim}
-use mathlib.Core.Path.{_≡_, sym, _∙_}
-use Prim.Native.Nat.{ℕ, _-_}
+use mathlib.Core.Path.{_≡_, refl, sym, _∙_}
+use Prim.Native.Nat.{ℕ, _^_, _<_}
 use native.Mathlib.Omega.{arith}
+use lib.Bits.{and-le-l}
+use lib.Dec.{eqb}
+use lib.ListN.{getD}
 use borrow.Author.Needs.{needs}
+use borrow.Author.Tests.{not-true, not-false}
 use Rattle.meaning.specs.Bytes.{bit}
-use Rattle.meaning.proofs.Bool.{and-true}
-use Rattle.timing.specs.declared.Intervals.{Intervals}
-use Rattle.edges.specs.Edges.{firable-at}
-use Rattle.edges.proofs.Step.{Walked, walk-begins, walk-ends, walk-at, walk-keeps, walk-drops, walk-up, walk-on}
+use Rattle.sets.proofs.Members.{lowest-in, falls}
+use Rattle.edges.specs.Edges.{as-asked}
+use Rattle.edges.proofs.Step.{one-dropped, unasked, all-asked, below-64}
 use Rattle.edges.proofs.firable.Statement.{statement}
 use Rattle.edges.proofs.firable.Tie as tie
 
--- A transition that is not enabled is not firable.
-on-only : (x : Intervals) (counters truths falses : List ℕ) (on word j : ℕ) → bit on j ≡ false
-    → firable-at x counters on truths falses word j ≡ false
-on-only x counters truths falses on word j z = rw z
-
 abbrev Inv-loop : tie.InvT-loop
-Inv-loop on counters sorts a b truths falses word left₀ able₀ t₀ left able t =
-    Walked (firable-at (record { sorts = sorts; a = a; b = b }) counters on truths falses word) on left able t
+Inv-loop on timed ready conditional truths falses word able₀ left₀ able left =
+    (left < 2 ^ 64) × (able < 2 ^ 64)
+    × ((t : ℕ) →
+    (bit able t && (not (bit left t) || as-asked (getD truths t 0) (getD falses t 0) word))
+    ≡ (bit able₀ t && (not (bit left₀ t) || as-asked (getD truths t 0) (getD falses t 0) word)))
 
 abbrev μ-loop : tie.MeasureT-loop
-μ-loop on counters sorts a b truths falses word left₀ able₀ t₀ left able t = 64 - t
+μ-loop on timed ready conditional truths falses word able₀ left₀ able left = left
+
+less-requires : tie.Need-less-requires Inv-loop μ-loop
+less-requires c κs = search needs
+
+union-requires : tie.Need-union-requires Inv-loop μ-loop
+union-requires c κs = search needs
+
+loop-holds : tie.Need-loop-holds Inv-loop μ-loop
+loop-holds c = (omega (arith, and-le-l (c .union .result) (c .before .before .args .conditional)), omega arith, λ t. refl)
 
 lowest-requires : tie.Need-lowest-requires Inv-loop μ-loop
 lowest-requires c κs = search needs
 
-loop-holds : tie.Need-loop-holds Inv-loop μ-loop
-loop-holds c =
-    let a = c .before .args in
-    walk-begins _ _ (on-only (record { sorts = a .sorts .now; a = a .a .now; b = a .b .now }) (a .counters .now) (a .truths .now) (a .falses .now) (a .on) (a .word)) _ (c .lowest .ensures)
+-- The member that is taken is below 64, and in what is left.
+member : (c : tie.After-lowest Inv-loop μ-loop) → (c .lowest .result < 64) × (bit (c .before .before .loop .left) (c .lowest .result) ≡ true)
+member c =
+    lowest-in (c .before .before .loop .left) (c .lowest .result) (c .before .before .loop .inv .0) (c .before .loop-test .taken) (c .lowest .ensures)
 
 mul-asked : tie.Need-mul-asked Inv-loop μ-loop
-mul-asked c = search needs
+mul-asked c = omega (arith, member c .0)
 
 element-copy-out-asked : tie.Need-element-copy-out-asked Inv-loop μ-loop
-element-copy-out-asked c = search needs
+element-copy-out-asked c = omega (arith, member c .0)
 
 mul-asked-2 : tie.Need-mul-asked-2 Inv-loop μ-loop
-mul-asked-2 c = search needs
+mul-asked-2 c = omega (arith, member (c .before) .0)
 
 element-copy-out-asked-2 : tie.Need-element-copy-out-asked-2 Inv-loop μ-loop
-element-copy-out-asked-2 c = search needs
+element-copy-out-asked-2 c = omega (arith, member (c .before) .0)
 
 asked-requires : tie.Need-asked-requires Inv-loop μ-loop
 asked-requires c κs = search needs
 
-element-copy-out-timely : tie.Need-element-copy-out-timely Inv-loop μ-loop
-element-copy-out-timely c = search needs
-
-mul-timely : tie.Need-mul-timely Inv-loop μ-loop
-mul-timely c = search needs
-
-element-copy-out-timely-2 : tie.Need-element-copy-out-timely-2 Inv-loop μ-loop
-element-copy-out-timely-2 c = search needs
-
-mul-timely-2 : tie.Need-mul-timely-2 Inv-loop μ-loop
-mul-timely-2 c = search needs
-
-element-copy-out-timely-3 : tie.Need-element-copy-out-timely-3 Inv-loop μ-loop
-element-copy-out-timely-3 c = search needs
-
-mul-timely-3 : tie.Need-mul-timely-3 Inv-loop μ-loop
-mul-timely-3 c = search needs
-
-element-copy-out-timely-4 : tie.Need-element-copy-out-timely-4 Inv-loop μ-loop
-element-copy-out-timely-4 c = search needs
-
-timely-requires : tie.Need-timely-requires Inv-loop μ-loop
-timely-requires c κs = search needs
-
-with-requires : tie.Need-with-requires Inv-loop μ-loop
-with-requires c κs = search needs
+without-requires : tie.Need-without-requires Inv-loop μ-loop
+without-requires c κs = search needs
 
 rest-requires : tie.Need-rest-requires Inv-loop μ-loop
 rest-requires c κs = search needs
 
-lowest-requires-2 : tie.Need-lowest-requires-2 Inv-loop μ-loop
-lowest-requires-2 c κs = search needs
-
 loop-less : tie.Need-loop-less Inv-loop μ-loop
 loop-less c =
-    let at = c .before .before .before .before .before .before in
-    let a = at .before .before .before .args in
-    let only = on-only (record { sorts = a .sorts .now; a = a .a .now; b = a .b .now }) (a .counters .now) (a .truths .now) (a .falses .now) (a .on) (a .word) in
-    let up = walk-up _ _ only _ _ _ (at .before .loop .inv) (at .loop-test .taken) _ _ (λ j. rw (at .before .loop .inv .at) (c .before .rest .ensures j)) (c .lowest2 .ensures) in
-    omega arith
+    let taken = c .before .before .before .before .before in
+    let at = taken .before .before .loop in
+    falls (at .left) _ (c .rest .result) (λ j. rw (taken .lowest .ensures) (c .rest .ensures j)) (at .inv .0) (omega arith) (member taken .1)
 
 loop-again : tie.Need-loop-again Inv-loop μ-loop
 loop-again c =
-    let at = c .before .before .before .before .before .before in
-    let a = at .before .before .before .args in
-    let q = firable-at (record { sorts = a .sorts .now; a = a .a .now; b = a .b .now }) (a .counters .now) (a .on) (a .truths .now) (a .falses .now) (a .word) in
-    let only = on-only (record { sorts = a .sorts .now; a = a .a .now; b = a .b .now }) (a .counters .now) (a .truths .now) (a .falses .now) (a .on) (a .word) in
-    let inv = at .before .loop .inv in
-    let low = at .loop-test .taken in
-    let member = walk-at q (a .on) only _ _ _ inv low in
-    let asked = c .before .before .before .asked .ensures in
-    walk-on q (a .on) only _ _ _ inv low _ _ (λ j. rw (at .before .loop .inv .at) (c .before .rest .ensures j)) (c .lowest2 .ensures) _
-    (⊎-elim
-    (λ y.
-    let passes = and-true (and-true member (sym asked ∙ y .0 .taken)) (sym (y .5 .ensures) ∙ y .6 .taken) in
-    rw (y .8) (walk-keeps q (a .on) only _ _ _ inv low passes _ (y .7 .ensures)))
-    (⊎-elim
-    (λ y. rw (y .7) (walk-drops q (a .on) only _ _ _ inv low (rw (member, sym asked ∙ y .0 .taken, sym (y .5 .ensures) ∙ y .6 .left))))
-    (λ y. rw (y .1) (walk-drops q (a .on) only _ _ _ inv low (rw (sym asked ∙ y .0 .left, member)))))
-    (c .before .before .if1 .came))
+    let says = c .before .before .asked in
+    let taken = c .before .before .before .before .before in
+    let at = taken .before .before .loop in
+    let a = taken .before .before .before .before .before .args in
+    let k = member taken in
+    let t : ℕ = taken .lowest .result in
+    let q : ℕ → Bool = λ t. as-asked (getD (a .truths .now) t 0) (getD (a .falses .now) t 0) (a .word) in
+    let less : (j : ℕ) → bit (c .rest .result) j ≡ (bit (at .left) j && not (eqb t j)) = λ j. rw (taken .lowest .ensures) (c .rest .ensures j) in (
+      omega arith,
+      ⊎-elim (λ y. rw (y .2) (omega arith)) (λ y. rw (y .1) (at .inv .1)) (c .before .if1 .came),
+      λ j. ⊎-elim
+          (λ y. rw (y .2) (one-dropped (at .left) t (c .rest .result) less (k .1) q (at .able) (y .1 .result) false (sym (not-true _ (y .0 .taken)) ∙ says .ensures) (y .1 .ensures) j ∙ at .inv .2 j))
+          (λ y. rw (y .1) (one-dropped (at .left) t (c .rest .result) less (k .1) q (at .able) (at .able) true (sym (not-false _ (y .0 .left)) ∙ says .ensures) (λ j. sym (and-true _)) j ∙ at .inv .2 j))
+          (c .before .if1 .came),
+    )
 
 returns : tie.Need-returns Inv-loop μ-loop
 returns c =
-    let a = c .before .before .before .args in
-    let only = on-only (record { sorts = a .sorts .now; a = a .a .now; b = a .b .now }) (a .counters .now) (a .truths .now) (a .falses .now) (a .on) (a .word) in
-    walk-ends _ _ only _ _ _ (c .before .loop .inv) (c .loop-test .left)
+    let at = c .before .loop in
+    let start = c .before .before in
+    let a = start .before .before .args in
+    let q : ℕ → Bool = λ t. as-asked (getD (a .truths .now) t 0) (getD (a .falses .now) t 0) (a .word) in
+    let first : (t : ℕ) → bit (start .union .result) t ≡ ((bit (a .on) t && not (bit (a .timed) t)) || bit (a .ready) t) =
+    λ t. start .union .ensures t ∙ rw (start .before .less .ensures t) in
+    let below : (t : ℕ) → t < 64 → bit (at .able) t ≡ (((bit (a .on) t && not (bit (a .timed) t)) || bit (a .ready) t) && q t) =
+    λ t h.
+    all-asked (start .union .result) (a .conditional) (at .left) (at .able) t (q t) (c .loop-test .left)
+    (λ e. unasked (getD (a .truths .now) t 0) (getD (a .falses .now) t 0) (a .word) (sym (start .before .before .pre t h) ∙ e)) (at .inv .2 t)
+    ∙ rw (first t) in
+    below-64 _ (at .able) (at .inv .1) below
 
 pub firable-spec : {M : Type 1} → statement M
 firable-spec =
@@ -122,24 +109,17 @@ firable-spec =
     (tie.spec
     Inv-loop
     μ-loop
-    lowest-requires
+    less-requires
+    union-requires
     loop-holds
+    lowest-requires
     mul-asked
     element-copy-out-asked
     mul-asked-2
     element-copy-out-asked-2
     asked-requires
-    element-copy-out-timely
-    mul-timely
-    element-copy-out-timely-2
-    mul-timely-2
-    element-copy-out-timely-3
-    mul-timely-3
-    element-copy-out-timely-4
-    timely-requires
-    with-requires
+    without-requires
     rest-requires
-    lowest-requires-2
     loop-less
     loop-again
     returns)

@@ -1,4 +1,5 @@
--- The loop keeps that the words have the places passed: each turn adds one place to the transitions of its row.
+-- The loop keeps that the words have the places passed: each turn adds one place to the transitions of its row; and the rows from `count` on are
+-- empty.
 use mathlib.Core.Bool.{_&&_}
 use mathlib.Core.Path.{_≡_, refl, _∙_}
 use Prim.Native.Nat.{ℕ, _+_, _-_, _≤_, _<_}
@@ -6,19 +7,18 @@ use native.Mathlib.Omega.{arith}
 use lib.Dec.{ltb}
 use lib.ListN.{length, getD}
 use borrow.Author.Needs.{needs}
-use borrow.Author.Tests.{lt-ltb}
 use Rattle.meaning.specs.Bytes.{bit}
-use Rattle.enabled.proofs.Walk.{no-row, one-more}
+use Rattle.enabled.proofs.Walk.{no-row, one-more, below-end}
 use Rattle.enabled.proofs.half.Statement.{statement}
 use Rattle.enabled.proofs.half.Tie as tie
 
 abbrev Inv-loop : tie.InvT-loop
-Inv-loop index from words₀ p₀ words p =
-    (p ≤ 64) × (length words ≡ 64)
+Inv-loop index from count words₀ p₀ words p =
+    (p ≤ count) × (length words ≡ 64)
     × ((t q : ℕ) → t < 64 → q < 64 → bit (getD words t 0) q ≡ (ltb q p && bit (getD index (from + q) 0) t))
 
 abbrev μ-loop : tie.MeasureT-loop
-μ-loop index from words₀ p₀ words p = 64 - p
+μ-loop index from count words₀ p₀ words p = count - p
 
 loop-holds : tie.Need-loop-holds Inv-loop μ-loop
 loop-holds c = (omega arith, refl, no-row (c .args .index .now) (c .args .from))
@@ -44,17 +44,24 @@ loop-less c = search needs
 loop-again : tie.Need-loop-again Inv-loop μ-loop
 loop-again c =
     let a = c .before .before .before .before .before .args in
-    let at = c .before .before .before .before .loop in (
+    let at = c .before .before .before .before .loop in
+    let low : at .p < 64 = omega (arith, c .before .before .before .loop-test .taken) in (
       omega arith,
       c .spread .ensures .size,
-      one-more (a .index .now) (at .words) (c .spread .last .0) (a .from) (at .p) (c .before .before .before .loop-test .taken) (at .inv .2)
+      one-more (a .index .now) (at .words) (c .spread .last .0) (a .from) (at .p) low (at .inv .2)
           (c .spread .ensures),
     )
 
 returns : tie.Need-returns Inv-loop μ-loop
 returns c =
     let at = c .before .loop in
-    record { holds = λ t p h l. at .inv .2 t p h l ∙ rw (lt-ltb p (at .p) (omega arith)) }
+    let start = c .before .before in
+    record {
+      holds = λ t p h l.
+          at .inv .2 t p h l
+          ∙ below-end (at .p) (λ q. bit (getD (start .args .index .now) (start .args .from + q) 0) t) p
+          (λ past. start .pre .1 p t (omega (arith, past)) l h);
+    }
 
 pub half-spec : {M : Type 1} → statement M
 half-spec =

@@ -1,25 +1,37 @@
--- The loop keeps that the set has the declared transitions passed: each turn adds one where its row says so.
+-- The loop keeps that the set has the declared transitions passed: each turn adds one where its row says so; and past n there is
+-- none.
 use mathlib.Core.Bool.{_&&_}
 use mathlib.Core.Path.{_≡_, _∙_}
-use Prim.Native.Nat.{ℕ, _+_, _-_, _≤_}
+use Prim.Native.Nat.{ℕ, _+_, _-_, _≤_, _<_}
 use native.Mathlib.Omega.{arith}
 use lib.Dec.{ltb}
 use lib.ListN.{getD}
 use borrow.Author.Needs.{needs}
-use borrow.Author.Tests.{lt-ltb}
 use Rattle.meaning.specs.Bytes.{bit}
 use Rattle.sets.proofs.Walk.{no-number, next-number}
+use Rattle.table.specs.Index.{transitions-below}
+use Rattle.table.proofs.Firsts.{few-transitions, past-transitions}
+use Rattle.enabled.proofs.Walk.{below-end}
 use Rattle.enabled.proofs.known.Statement.{statement}
 use Rattle.enabled.proofs.known.Tie as tie
 
 abbrev Inv-loop : tie.InvT-loop
-Inv-loop index r₀ t₀ r t = (t ≤ 64) × ((j : ℕ) → bit r j ≡ (ltb j t && bit (getD index (128 + j) 0) 0))
+Inv-loop index n most r₀ t₀ r t = (t ≤ most) × (most ≡ transitions-below n) × (most ≤ 64) × ((j : ℕ) → bit r j ≡ (ltb j t && bit (getD index (128 + j) 0) 0))
 
 abbrev μ-loop : tie.MeasureT-loop
-μ-loop index r₀ t₀ r t = 64 - t
+μ-loop index n most r₀ t₀ r t = most - t
+
+transitions-requires : tie.Need-transitions-requires Inv-loop μ-loop
+transitions-requires c κs = search needs
 
 loop-holds : tie.Need-loop-holds Inv-loop μ-loop
-loop-holds c = (omega arith, no-number (λ j. bit (getD (c .args .index .now) (128 + j) 0) 0))
+loop-holds c =
+    let few = c .transitions .ensures in (
+      omega arith,
+      few,
+      omega (arith, few, few-transitions (c .before .args .n)),
+      no-number (λ j. bit (getD (c .before .args .index .now) (128 + j) 0) 0),
+    )
 
 add-has : tie.Need-add-has Inv-loop μ-loop
 add-has c = search needs
@@ -45,17 +57,23 @@ loop-less c = search needs
 loop-again : tie.Need-loop-again Inv-loop μ-loop
 loop-again c =
     let at = c .before .before .before .before .loop in
-    let index = c .before .before .before .before .before .args .index .now in (
+    let low : at .t < 64 = omega (arith, at .inv .2, c .before .before .before .loop-test .taken) in
+    let index = c .before .before .before .before .before .before .args .index .now in (
       omega arith,
-      λ j.
-          next-number (λ k. bit (getD index (128 + k) 0) 0) j (at .t) (c .before .before .before .loop-test .taken) (c .before .has .ensures)
-          (c .with-if .ensures j) (at .inv .1 j),
+      at .inv .1,
+      at .inv .2,
+      λ j. next-number (λ k. bit (getD index (128 + k) 0) 0) j (at .t) low (c .before .has .ensures) (c .with-if .ensures j) (at .inv .3 j),
     )
 
 returns : tie.Need-returns Inv-loop μ-loop
-returns c j h = c .before .loop .inv .1 j ∙ rw (lt-ltb j (c .before .loop .t) (omega arith))
+returns c j h =
+    let at = c .before .loop in
+    let start = c .before .before .before in
+    at .inv .3 j
+    ∙ below-end (at .t) (λ k. bit (getD (start .args .index .now) (128 + k) 0) 0) j
+    (λ past. start .pre .no-row 1 j 0 (omega arith) (past-transitions (start .args .n) j (omega (arith, past, at .inv .1)) h) h (omega arith))
 
 pub known-spec : {M : Type 1} → statement M
 known-spec =
     tie.close
-    (tie.spec Inv-loop μ-loop loop-holds add-has mul-has element-copy-out-has has-requires with-if-requires add-t loop-less loop-again returns)
+    (tie.spec Inv-loop μ-loop transitions-requires loop-holds add-has mul-has element-copy-out-has has-requires with-if-requires add-t loop-less loop-again returns)

@@ -1,7 +1,11 @@
 -- `engine::judge` meets its contract: each return is a stage's verdict, behind stages that found nothing.
+use mathlib.Core.Path.{refl, sym}
 use native.Mathlib.Omega.{arith}
 use Rattle.meaning.specs.Table.{table}
-use Rattle.engine.proofs.Verdict.{refusal, verdict-2, clean, verdict-5, verdict-6, verdict-7, above-is, verdict-8, verdict-9, verdict-0}
+use Rattle.table.proofs.Firsts.{few-transitions}
+use Rattle.table.proofs.Reach.{no-pair}
+use Rattle.net.proofs.Reach.{gathered-blank, conflicts-blank}
+use Rattle.engine.proofs.Verdict.{refusal, verdict-2, clean, all-below, reaching, verdict-5, verdict-6, verdict-7, above-is, verdict-8, verdict-9, verdict-0}
 use borrow.Author.Needs.{needs}
 use Rattle.engine.proofs.judge.Statement.{statement}
 use Rattle.engine.proofs.judge.Tie as tie
@@ -34,7 +38,8 @@ returns-2 c =
     (verdict-5 _ (start .pre .0) (scanned .scan .result) _ (scanned .scan .ensures) (one .if1 .left) _ (c .before .fill .ensures .unknown) (c .if2 .taken))
 
 first-none-requires : tie.Need-first-none-requires
-first-none-requires c κs = search needs
+unfolding table
+first-none-requires c κs = reaching _ (c .before .before .before .before .before .before .before .before .before .before .before .before .before .pre .0) (c .before .before .before .before .before .before .before .before .before .before .scan .result) _ (c .before .before .before .before .before .before .before .before .before .before .scan .ensures) (c .before .before .before .before .before .before .before .before .before .if1 .left)
 
 returns-3 : tie.Need-returns-3
 unfolding table
@@ -47,7 +52,8 @@ returns-3 c =
     (verdict-6 _ (start .pre .0) (scanned .scan .result) _ (scanned .scan .ensures) (one .if1 .left) _ (two .before .fill .ensures .unknown) (two .if2 .left) _ (c .before .first-none .ensures) (c .if3 .taken))
 
 first-lone-requires : tie.Need-first-lone-requires
-first-lone-requires c κs = search needs
+unfolding table
+first-lone-requires c κs = reaching _ (c .before .before .before .before .before .before .before .before .before .before .before .before .before .before .before .before .pre .0) (c .before .before .before .before .before .before .before .before .before .before .before .before .before .scan .result) _ (c .before .before .before .before .before .before .before .before .before .before .before .before .before .scan .ensures) (c .before .before .before .before .before .before .before .before .before .before .before .before .if1 .left)
 
 returns-4 : tie.Need-returns-4
 unfolding table
@@ -60,57 +66,76 @@ returns-4 c =
     refusal _ _ _ _ _ _ _ _ _ (omega arith)
     (verdict-7 _ (start .pre .0) (scanned .scan .result) _ (scanned .scan .ensures) (one .if1 .left) _ (two .before .fill .ensures .unknown) (two .if2 .left) _ (three .before .first-none .ensures) (three .if3 .left) _ (c .before .first-lone .ensures) (c .if4 .taken))
 
+transitions-requires : tie.Need-transitions-requires
+transitions-requires c κs = search needs
+
 close-requires : tie.Need-close-requires
-close-requires c κs = search needs
+unfolding table
+close-requires c κs =
+    let few = c .before .before .transitions .ensures in (
+      record { most = omega (arith, few, few-transitions (c .before .before .before .before .before .before .before .before .before .before .before .before .before .before .before .before .before .before .scan .result .reach)); none = no-pair (reaching _ (c .before .before .before .before .before .before .before .before .before .before .before .before .before .before .before .before .before .before .before .before .before .pre .0) (c .before .before .before .before .before .before .before .before .before .before .before .before .before .before .before .before .before .before .scan .result) _ (c .before .before .before .before .before .before .before .before .before .before .before .before .before .before .before .before .before .before .scan .ensures) (c .before .before .before .before .before .before .before .before .before .before .before .before .before .before .before .before .before .if1 .left)) few },
+      c .before .before .before .before .before .before .before .before .before .before .before .before .before .before .before .before .before .before .before .before .before .pre .1 .1 .1,
+    )
 
 circle-requires : tie.Need-circle-requires
-circle-requires c κs = search needs
+circle-requires c κs = c .before .close .ensures .1
 
 returns-5 : tie.Need-returns-5
 unfolding table
 returns-5 c =
-    let four = c .before .before .before .before .before .before in
+    let four = c .before .before .before .before .before .before .before in
     let three = four .before .before .before in
     let two = three .before .before .before in
     let one = two .before .before .before .before .before .before .before .before in
     let scanned = one .before in
     let start = scanned .before .before .before in
     refusal _ _ _ _ _ _ _ _ _ (omega arith)
-    (verdict-8 _ (start .pre .0) (scanned .scan .result) _ (scanned .scan .ensures) (one .if1 .left) _ (two .before .fill .ensures .unknown) (two .if2 .left) _ (three .before .first-none .ensures) (three .if3 .left) _ (four .before .first-lone .ensures) (four .if4 .left) _ (c .before .before .before .close .ensures) _ (c .before .circle .ensures) (c .if5 .taken))
+    (verdict-8 _ (start .pre .0) (scanned .scan .result) _ (scanned .scan .ensures) (one .if1 .left) _ (two .before .fill .ensures .unknown) (two .if2 .left) _ (three .before .first-none .ensures) (three .if3 .left) _ (four .before .first-lone .ensures) (four .if4 .left) _ (c .before .before .before .close .ensures .0) _ (c .before .circle .ensures) (c .if5 .taken))
 
 conflicts-requires : tie.Need-conflicts-requires
-conflicts-requires c κs = search needs
+unfolding table
+conflicts-requires c κs = (
+  gathered-blank (all-below _ (c .before .before .before .before .before .before .before .before .before .before .before .before .before .before .before .before .before .before .before .before .before .before .before .before .before .before .before .pre .0) (c .before .before .before .before .before .before .before .before .before .before .before .before .before .before .before .before .before .before .before .before .before .before .before .before .scan .result) _ (c .before .before .before .before .before .before .before .before .before .before .before .before .before .before .before .before .before .before .before .before .before .before .before .before .scan .ensures) (c .before .before .before .before .before .before .before .before .before .before .before .before .before .before .before .before .before .before .before .before .before .before .before .if1 .left)) (reaching _ (c .before .before .before .before .before .before .before .before .before .before .before .before .before .before .before .before .before .before .before .before .before .before .before .before .before .before .before .pre .0) (c .before .before .before .before .before .before .before .before .before .before .before .before .before .before .before .before .before .before .before .before .before .before .before .before .scan .result) _ (c .before .before .before .before .before .before .before .before .before .before .before .before .before .before .before .before .before .before .before .before .before .before .before .before .scan .ensures) (c .before .before .before .before .before .before .before .before .before .before .before .before .before .before .before .before .before .before .before .before .before .before .before .if1 .left) .most)
+      (c .before .before .before .before .before .before .before .before .before .before .before .before .before .before .before .before .fill .ensures .filled (c .before .before .before .before .before .before .before .before .before .before .before .before .before .before .before .if2 .left) .takers-hold),
+  refl,
+)
 
 clash-requires : tie.Need-clash-requires
-clash-requires c κs = search needs
+unfolding table
+clash-requires c κs =
+    conflicts-blank (all-below _ (c .before .before .before .before .before .before .before .before .before .before .before .before .before .before .before .before .before .before .before .before .before .before .before .before .before .before .before .before .before .before .before .before .before .before .pre .0) (c .before .before .before .before .before .before .before .before .before .before .before .before .before .before .before .before .before .before .before .before .before .before .before .before .before .before .before .before .before .before .before .scan .result) _ (c .before .before .before .before .before .before .before .before .before .before .before .before .before .before .before .before .before .before .before .before .before .before .before .before .before .before .before .before .before .before .before .scan .ensures) (c .before .before .before .before .before .before .before .before .before .before .before .before .before .before .before .before .before .before .before .before .before .before .before .before .before .before .before .before .before .before .if1 .left)) (c .before .before .before .before .before .before .before .before .before .before .before .before .before .before .before .transitions .ensures)
+    (c .before .before .before .before .before .before .before .before .before .before .before .before .before .before .before .before .before .before .before .before .before .before .before .fill .ensures .filled (c .before .before .before .before .before .before .before .before .before .before .before .before .before .before .before .before .before .before .before .before .before .before .if2 .left) .takers-hold) (c .before .before .before .before .before .before .conflicts2 .ensures)
 
 returns-6 : tie.Need-returns-6
 unfolding table
 returns-6 c =
     let five = c .before .before .before .before .before .before .before .before .before .before .before in
-    let four = five .before .before .before .before .before .before in
+    let four = five .before .before .before .before .before .before .before in
     let three = four .before .before .before in
     let two = three .before .before .before in
     let one = two .before .before .before .before .before .before .before .before in
     let scanned = one .before in
     let start = scanned .before .before .before in
     refusal _ _ _ _ _ _ _ _ _ (omega arith)
-    (verdict-9 _ (start .pre .0) (scanned .scan .result) _ (scanned .scan .ensures) (one .if1 .left) _ (two .before .fill .ensures .unknown) (two .if2 .left) _ (three .before .first-none .ensures) (three .if3 .left) _ (four .before .first-lone .ensures) (four .if4 .left) _ (five .before .before .before .close .ensures) _ (five .before .circle .ensures) (five .if5 .left) _ _ _ _ _ (two .before .fill .ensures .filled (two .if2 .left)) _ (c .before .before .before .before .before .before .before .before .conflicts2 .ensures) _ (c .before .clash .ensures) (c .if6 .taken))
+    (verdict-9 _ (start .pre .0) (scanned .scan .result) _ (scanned .scan .ensures) (one .if1 .left) _ (two .before .fill .ensures .unknown) (two .if2 .left) _ (three .before .first-none .ensures) (three .if3 .left) _ (four .before .first-lone .ensures) (four .if4 .left) _ (five .before .before .before .close .ensures .0) _ (five .before .circle .ensures) (five .if5 .left) _ _ _ _ _ (two .before .fill .ensures .filled (two .if2 .left)) _ (c .before .before .before .before .before .before .before .before .conflicts2 .ensures) _ (c .before .clash .ensures) (c .if6 .taken))
 
 returns-7 : tie.Need-returns-7
 unfolding table
 returns-7 c =
     let five = c .before .before .before .before .before .before .before .before .before .before .before in
-    let four = five .before .before .before .before .before .before in
+    let four = five .before .before .before .before .before .before .before in
     let three = four .before .before .before in
     let two = three .before .before .before in
     let one = two .before .before .before .before .before .before .before .before in
     let scanned = one .before in
     let start = scanned .before .before .before in
     record {
-      answer = verdict-0 _ (start .pre .0) (scanned .scan .result) _ (scanned .scan .ensures) (one .if1 .left) _ (two .before .fill .ensures .unknown) (two .if2 .left) _ (three .before .first-none .ensures) (three .if3 .left) _ (four .before .first-lone .ensures) (four .if4 .left) _ (five .before .before .before .close .ensures) _ (five .before .circle .ensures) (five .if5 .left) _ _ _ _ _ (two .before .fill .ensures .filled (two .if2 .left)) _ (c .before .before .before .before .before .before .before .before .conflicts2 .ensures) _ (c .before .clash .ensures) (c .if6 .left);
+      answer = verdict-0 _ (start .pre .0) (scanned .scan .result) _ (scanned .scan .ensures) (one .if1 .left) _ (two .before .fill .ensures .unknown) (two .if2 .left) _ (three .before .first-none .ensures) (three .if3 .left) _ (four .before .first-lone .ensures) (four .if4 .left) _ (five .before .before .before .close .ensures .0) _ (five .before .circle .ensures) (five .if5 .left) _ _ _ _ _ (two .before .fill .ensures .filled (two .if2 .left)) _ (c .before .before .before .before .before .before .before .before .conflicts2 .ensures) _ (c .before .clash .ensures) (c .if6 .left);
+      reaches = λ z. reaching _ (start .pre .0) (scanned .scan .result) _ (scanned .scan .ensures) (one .if1 .left);
+      below = λ z. all-below _ (start .pre .0) (scanned .scan .result) _ (scanned .scan .ensures) (one .if1 .left);
+      bare = λ z. rw (sym (five .before .before .before .before .before .before .transitions .ensures)) (five .before .before .before .close .ensures .1);
       indexed = λ z. clean _ (start .pre .0) (scanned .scan .result) _ (scanned .scan .ensures) (one .if1 .left) .index;
-      higher-is = λ z. above-is _ (start .pre .0) (scanned .scan .result) _ (scanned .scan .ensures) (one .if1 .left) _ (two .before .fill .ensures .unknown) (two .if2 .left) _ (three .before .first-none .ensures) (three .if3 .left) _ (four .before .first-lone .ensures) (four .if4 .left) _ (five .before .before .before .close .ensures);
+      higher-is = λ z. above-is _ (start .pre .0) (scanned .scan .result) _ (scanned .scan .ensures) (one .if1 .left) _ (two .before .fill .ensures .unknown) (two .if2 .left) _ (three .before .first-none .ensures) (three .if3 .left) _ (four .before .first-lone .ensures) (four .if4 .left) _ (five .before .before .before .close .ensures .0);
       filled = λ z. two .before .fill .ensures .filled (two .if2 .left);
     }
 
@@ -127,6 +152,7 @@ judge-spec =
     returns-3
     first-lone-requires
     returns-4
+    transitions-requires
     close-requires
     circle-requires
     returns-5

@@ -1,28 +1,41 @@
--- `decide` meets its contract: with nothing taken the answer is yes, and else it is what the residual enables.
-use borrow.Author.Tests.{eq-eqb}
-use Rattle.fire.proofs.Rounds.{rest-says}
+-- `decide` meets its contract: with nothing taken the answer is yes, and else t is stopped at a place of the low word, of the high word, or not.
+use Rattle.enabled.proofs.Words.{by-words}
+use Rattle.fire.specs.Fired.{stopped-at, left-enabled}
+use Rattle.fire.proofs.Rounds.{spared}
+use mathlib.Core.Path.{sym}
 use borrow.Author.Needs.{needs}
 use Rattle.fire.proofs.decide.Statement.{statement}
 use Rattle.fire.proofs.decide.Tie as tie
 
 returns : tie.Need-returns
-returns c = (rw (eq-eqb (c .before .args .g) 0 (c .if1 .taken)), c .before .pre .0)
+returns c = sym (spared _ _ _ _ _ _ _ _ (c .if1 .taken))
 
-residual-requires : tie.Need-residual-requires
-residual-requires c κs = search needs
-
-enabled-requires : tie.Need-enabled-requires
-enabled-requires c κs = search needs
+stopped-from-requires : tie.Need-stopped-from-requires
+stopped-from-requires c κs = search needs
 
 returns-2 : tie.Need-returns-2
+unfolding left-enabled
 returns-2 c =
-    let start = c .before .before .before .before .before in
-    let a = start .args in
-    let left = c .before .before .residual in (
-      rest-says (a .m .now) (left .last .0) (a .w .now) (a .s .now) (a .takers .now) (a .low) (a .high) (a .g) (a .t) (c .enabled .result)
-          (start .pre .1) (c .before .before .before .before .if1 .left) (left .ensures) (c .enabled .ensures),
-      left .ensures .size,
+    let a = c .before .before .before .args in
+    rw (
+      by-words (a .low) (a .high) (stopped-at (a .m .now) (a .w .now) (a .s .now) (a .takers .now) (a .g) (a .t)),
+      ← c .before .stopped-from .ensures,
+      c .if2 .taken,
+    )
+
+stopped-from-requires-2 : tie.Need-stopped-from-requires-2
+stopped-from-requires-2 c κs = search needs
+
+returns-3 : tie.Need-returns-3
+unfolding left-enabled
+returns-3 c =
+    let a = c .before .before .before .before .args in
+    rw (
+      by-words (a .low) (a .high) (stopped-at (a .m .now) (a .w .now) (a .s .now) (a .takers .now) (a .g) (a .t)),
+      ← c .before .before .stopped-from .ensures,
+      c .before .if2 .left,
+      ← c .stopped-from2 .ensures,
     )
 
 pub decide-spec : {M : Type 1} → statement M
-decide-spec = tie.close (tie.spec returns residual-requires enabled-requires returns-2)
+decide-spec = tie.close (tie.spec returns stopped-from-requires returns-2 stopped-from-requires-2 returns-3)

@@ -1,8 +1,6 @@
 -- `fired` meets its contract: after k rounds those of rank below k are decided, and with none left the set is the fired one.
-use mathlib.Core.Path.{_≡_}
-use Prim.Native.Nat.{ℕ, _-_, _≤_, _<_, _^_}
+use Prim.Native.Nat.{_-_, _≤_, _<_, _^_}
 use native.Mathlib.Omega.{arith}
-use lib.ListN.{length, length-replicate}
 use borrow.Author.Needs.{needs}
 use Rattle.sets.proofs.Bits.{bit-zero}
 use Rattle.fire.proofs.Rounds.{Decided, at-start, at-end, one-more}
@@ -10,22 +8,30 @@ use Rattle.fire.proofs.fired.Statement.{statement}
 use Rattle.fire.proofs.fired.Tie as tie
 
 abbrev Inv-loop : tie.InvT-loop
-Inv-loop able higher m w s takers low high left₀ out₀ rest₀ k₀ left out rest k =
-    (k ≤ 64) × (out < 2 ^ 64) × Decided able higher m w s takers low high k left out × (length rest ≡ 128)
+Inv-loop able lower higher m w s takers low high left₀ out₀ k₀ left out k =
+    (k ≤ 64) × (out < 2 ^ 64) × Decided able higher m w s takers low high k left out
 
 abbrev μ-loop : tie.MeasureT-loop
-μ-loop able higher m w s takers low high left₀ out₀ rest₀ k₀ left out rest k = 64 - k
+μ-loop able lower higher m w s takers low high left₀ out₀ k₀ left out k = 64 - k
+
+less-requires : tie.Need-less-requires Inv-loop μ-loop
+less-requires c κs = search needs
 
 loop-holds : tie.Need-loop-holds Inv-loop μ-loop
 loop-holds c =
-    let a = c .args in
-    (omega arith, omega arith, at-start (a .able) (a .higher .now) (a .m .now) (a .w .now) (a .s .now) (a .takers .now) (a .low .now) (a .high .now) (c .pre), length-replicate {A = ℕ} 128 0)
+    let start = c .before in
+    let a = start .args in (
+      omega arith,
+      omega arith,
+      at-start (a .able) (a .higher .now) (a .m .now) (a .w .now) (a .s .now) (a .takers .now) (a .low .now) (a .high .now) (a .lower) (start .pre .1)
+          (c .less .result) (omega arith) (c .less .ensures) (start .pre .0),
+    )
 
 returns : tie.Need-returns Inv-loop μ-loop
 returns c = at-end (c .before .before .loop .inv .2) (λ t h. rw (c .if1 .taken) (bit-zero t))
 
 one-round-requires : tie.Need-one-round-requires Inv-loop μ-loop
-one-round-requires c κs = c .before .before .before .loop .inv .3
+one-round-requires c κs = search needs
 
 add-k : tie.Need-add-k Inv-loop μ-loop
 add-k c = omega arith
@@ -35,8 +41,8 @@ loop-less c = omega arith
 
 loop-again : tie.Need-loop-again Inv-loop μ-loop
 loop-again c =
-    let at = c .before .before .before .before .loop in
-    (omega arith, omega arith, one-more (at .inv .2) (c .one-round .ensures .0) (at .inv .1) (omega arith), c .one-round .ensures .1)
+    let at = c .before .before .before .loop in
+    (omega arith, omega arith, one-more (at .inv .2) (c .one-round .ensures) (at .inv .1) (omega arith))
 
 returns-2 : tie.Need-returns-2 Inv-loop μ-loop
 returns-2 c =
@@ -49,6 +55,7 @@ fired-spec =
     (tie.spec
     Inv-loop
     μ-loop
+    less-requires
     loop-holds
     returns
     one-round-requires

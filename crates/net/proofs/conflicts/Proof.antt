@@ -1,4 +1,5 @@
--- `conflicts` meets its contract: after p places row i has whoever takes with i from one of these, and a place shares its row among its members.
+-- `conflicts` meets its contract: after p places row i has whoever takes with i from one of these, and a place shares its row among its members;
+-- from place n on nobody takes.
 use mathlib.Core.Bool.{Bool, false, _&&_, _||_, or-false}
 use mathlib.Core.List.{List}
 use mathlib.Core.Logic.{⊎-elim}
@@ -11,6 +12,8 @@ use borrow.Author.Needs.{needs}
 use Rattle.meaning.specs.Below.{some}
 use Rattle.meaning.specs.Bytes.{bit}
 use Rattle.sets.proofs.Bits.{bit-zero}
+use Rattle.table.proofs.Firsts.{some-short}
+use Rattle.net.specs.Rows.{Blank-from}
 use Rattle.net.proofs.conflicts.Statement.{statement}
 use Rattle.net.proofs.conflicts.Tie as tie
 
@@ -23,16 +26,17 @@ none : (takers : List ℕ) (i j p : ℕ) → getD takers p 0 ≡ 0 → both take
 none takers i j p e = rw (e, bit-zero i)
 
 abbrev Inv-loop : tie.InvT-loop
-Inv-loop takers rows₀ p₀ rows p = (p ≤ 128) × (length rows ≡ 64) × ((i j : ℕ) → i < 64 → bit (getD rows i 0) j ≡ some p (both takers i j))
+Inv-loop takers rows₀ n p₀ rows p =
+    (p ≤ n) × Blank-from 128 n takers × (length rows ≡ 64) × ((i j : ℕ) → i < 64 → bit (getD rows i 0) j ≡ some p (both takers i j))
 
 abbrev μ-loop : tie.MeasureT-loop
-μ-loop takers rows₀ p₀ rows p = 128 - p
+μ-loop takers rows₀ n p₀ rows p = n - p
 
 loop-holds : tie.Need-loop-holds Inv-loop μ-loop
 unfolding some
 loop-holds c =
-    let empty = c .pre in
-    (omega arith, rw empty (length-replicate {A = ℕ} 64 0), λ i j h. rw empty (ap (λ (x : ℕ). bit x j) (getD-replicate 64 i 0 0 h) ∙ bit-zero j))
+    let empty = c .pre .1 in
+    (omega arith, c .pre .0, rw empty (length-replicate {A = ℕ} 64 0), λ i j h. rw empty (ap (λ (x : ℕ). bit x j) (getD-replicate 64 i 0 0 h) ∙ bit-zero j))
 
 mul-set : tie.Need-mul-set Inv-loop μ-loop
 mul-set c = search needs
@@ -41,7 +45,7 @@ element-copy-out-set : tie.Need-element-copy-out-set Inv-loop μ-loop
 element-copy-out-set c = search needs
 
 share-requires : tie.Need-share-requires Inv-loop μ-loop
-share-requires c κs = c .before .before .before .before .loop .inv .1
+share-requires c κs = c .before .before .before .before .loop .inv .2
 
 add-p : tie.Need-add-p Inv-loop μ-loop
 add-p c = search needs
@@ -55,13 +59,14 @@ loop-again c =
     let at = c .before .before .before .loop in
     let takers : List ℕ = c .before .before .before .before .args .takers .now in
     let grows : (i j : ℕ) → i < 64 → (bit (getD (at .rows) i 0) j || both takers i j (at .p)) ≡ some (at .p + 1) (both takers i j) =
-    λ i j h. rw (at .inv .2 i j h, add-one (at .p)) in
+    λ i j h. rw (at .inv .3 i j h, add-one (at .p)) in
     ⊎-elim
-    (λ w. rw (w .3) (omega arith, w .2 .ensures .size, λ i j h. w .2 .ensures .holds i j h ∙ grows i j h))
+    (λ w. rw (w .3) (omega arith, at .inv .1, w .2 .ensures .size, λ i j h. w .2 .ensures .holds i j h ∙ grows i j h))
     (λ w.
     rw (w .1) (
       omega arith,
       at .inv .1,
+      at .inv .2,
       λ i j h. sym (or-false _) ∙ ap (λ (b : Bool). bit (getD (at .rows) i 0) j || b) (sym (none takers i j (at .p) (w .0 .left))) ∙ grows i j h,
     ))
     (c .if1 .came)
@@ -69,8 +74,14 @@ loop-again c =
 returns : tie.Need-returns Inv-loop μ-loop
 returns c =
     let at = c .before .loop in
-    let all : at .p ≡ 128 = omega arith in
-    record { holds = λ i j h. rw (← all) (at .inv .2 i j h) }
+    let takers : List ℕ = c .before .before .args .takers .now in
+    record {
+      holds =
+          λ i j h.
+          at .inv .3 i j h
+          ∙ some-short (at .p) 128 (both takers i j) (omega (arith, at .inv .1 .most))
+          (λ p l m. rw (at .inv .1 .none p i (omega arith) m h));
+    }
 
 pub conflicts-spec : {M : Type 1} → statement M
 conflicts-spec =

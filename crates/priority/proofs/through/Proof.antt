@@ -3,21 +3,22 @@ use mathlib.Core.Bool.{_||_}
 use mathlib.Core.List.{List}
 use mathlib.Core.Logic.{⊎-elim}
 use mathlib.Core.Path.{_≡_, refl, sym, ap, _∙_}
-use Prim.Native.Nat.{ℕ, _≤_, _<_, _-_}
+use Prim.Native.Nat.{ℕ, _≤_, _-_}
 use native.Mathlib.Nat.{not-suc-le-zero}
 use native.Mathlib.Omega.{arith}
 use lib.ListN.{getD}
 use borrow.Author.Needs.{needs}
 use Rattle.meaning.specs.Bytes.{bit}
-use Rattle.priority.proofs.Round.{Done, with-k, lacks-k, emptied, kept, put}
+use Rattle.priority.specs.Closed.{Bare}
+use Rattle.priority.proofs.Round.{Done, with-k, lacks-k, emptied, kept, put, all-done}
 use Rattle.priority.proofs.through.Statement.{statement}
 use Rattle.priority.proofs.through.Tie as tie
 
 abbrev Inv-loop : tie.InvT-loop
-Inv-loop rows₀ k below u₀ rows u = (u ≤ 64) × (k < 64) × (below ≡ getD rows₀ k 0) × Done rows₀ k u rows
+Inv-loop rows₀ k n below u₀ rows u = (u ≤ n) × Bare n rows₀ × (below ≡ getD rows₀ k 0) × Done rows₀ k u rows
 
 abbrev μ-loop : tie.MeasureT-loop
-μ-loop rows₀ k below u₀ rows u = 64 - u
+μ-loop rows₀ k n below u₀ rows u = n - u
 
 mul-below : tie.Need-mul-below Inv-loop μ-loop
 mul-below c = omega (arith, c .pre .0)
@@ -28,9 +29,9 @@ element-copy-out-below c = c .pre .0
 loop-holds : tie.Need-loop-holds Inv-loop μ-loop
 loop-holds c = (
   omega arith,
-  c .before .before .pre .0,
+  c .before .before .pre .1 .1,
   refl,
-  record { long = c .before .before .pre .1; below = λ v h. absurd (not-suc-le-zero h); above = λ v h. refl },
+  record { long = c .before .before .pre .1 .0; below = λ v h. absurd (not-suc-le-zero h); above = λ v h. refl },
 )
 
 mul-has : tie.Need-mul-has Inv-loop μ-loop
@@ -83,11 +84,12 @@ loop-again c =
 
 returns : tie.Need-returns Inv-loop μ-loop
 returns c =
-    let d = c .before .loop .inv .3 in
-    record { size = d .long; over = λ u t h i. d .below u (omega arith) t }
+    let at = c .before .loop in
+    let end : at .u ≡ c .before .before .before .before .args .n = omega arith in
+    all-done _ _ (at .inv .1) (rw end at (at .inv .3))
 
 returns-2 : tie.Need-returns-2 Inv-loop μ-loop
-returns-2 c = emptied _ _ (c .before .before .pre .1) (c .if1 .left)
+returns-2 c = (emptied _ _ (c .before .before .pre .1 .0) (c .if1 .left), c .before .before .pre .1 .1)
 
 pub through-spec : {M : Type 1} → statement M
 through-spec =

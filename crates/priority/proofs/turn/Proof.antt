@@ -5,19 +5,19 @@ use Prim.Native.Nat.{_-_, _≤_, _<_}
 use native.Mathlib.Omega.{arith}
 use lib.ListN.{length}
 use borrow.Author.Needs.{needs}
-use borrow.Author.Tests.{lt-ltb}
-use Rattle.priority.proofs.Walk.{Turned, no-row, one-more, empty-row}
+use Rattle.priority.specs.Closed.{Bare}
+use Rattle.priority.proofs.Walk.{Turned, no-row, one-more, empty-row, before-end}
 use Rattle.priority.proofs.turn.Statement.{statement}
 use Rattle.priority.proofs.turn.Tie as tie
 
 abbrev Inv-loop : tie.InvT-loop
-Inv-loop rows above₀ u₀ above u = (u ≤ 64) × (length above ≡ 64) × Turned rows above u
+Inv-loop rows n above₀ u₀ above u = (u ≤ n) × Bare n rows × (length above ≡ 64) × Turned rows above u
 
 abbrev μ-loop : tie.MeasureT-loop
-μ-loop rows above₀ u₀ above u = 64 - u
+μ-loop rows n above₀ u₀ above u = n - u
 
 loop-holds : tie.Need-loop-holds Inv-loop μ-loop
-loop-holds c = (omega arith, refl, no-row (c .args .rows .now))
+loop-holds c = (omega arith, c .pre, refl, no-row (c .args .rows .now))
 
 mul-if1 : tie.Need-mul-if1 Inv-loop μ-loop
 mul-if1 c = search needs
@@ -44,18 +44,18 @@ loop-again : tie.Need-loop-again Inv-loop μ-loop
 loop-again c =
     let rows = c .before .before .before .before .args .rows .now in
     let at = c .before .before .before .loop in
-    let low : at .u < 64 = omega arith in
+    let low : at .u < 64 = omega (arith, at .inv .1 .most) in
     ⊎-elim
     (λ w.
     let done = w .3 in
-    (omega arith, rw (w .4) (done .ensures .size), rw (w .4) (one-more rows (at .above) (done .last .0) (at .u) low (at .inv .2) (done .ensures))))
-    (λ w. (omega arith, rw (w .1) (at .inv .1), rw (w .1) (empty-row rows (at .above) (at .u) low (at .inv .1) (at .inv .2) (w .0 .left))))
+    (omega arith, at .inv .1, rw (w .4) (done .ensures .size), rw (w .4) (one-more rows (at .above) (done .last .0) (at .u) low (at .inv .3) (done .ensures))))
+    (λ w. (omega arith, at .inv .1, rw (w .1) (at .inv .2), rw (w .1) (empty-row rows (at .above) (at .u) low (at .inv .2) (at .inv .3) (w .0 .left))))
     (c .if1 .came)
 
 returns : tie.Need-returns Inv-loop μ-loop
 returns c =
     let at = c .before .loop in
-    λ t u h l. at .inv .2 t u h l ∙ rw (lt-ltb u (at .u) (omega arith))
+    λ t u h l. at .inv .3 t u h l ∙ before-end (at .inv .1) u t (at .u) (omega arith) l
 
 pub turn-spec : {M : Type 1} → statement M
 turn-spec =

@@ -8,21 +8,21 @@ use Rattle.meaning.specs.Bytes.{bit}
 use Rattle.meaning.specs.Below.{some}
 use Rattle.meaning.proofs.Below.{first-is, first-le}
 use Rattle.sets.proofs.Bits.{bit-zero}
-use Rattle.table.specs.Index.{has-transition, lone}
+use Rattle.table.specs.Index.{Reaches, has-transition, lone}
 use Rattle.table.proofs.Firsts.{none-yet, none-more, lone-place, more-arcs, lone-first, arc-bit}
 use Rattle.table.proofs.first_lone.Statement.{statement}
 use Rattle.table.proofs.first_lone.Tie as tie
 
 abbrev Inv-loop : tie.InvT-loop
-Inv-loop rows all₀ p₀ all p =
-    (p ≤ 128) × ((k : ℕ) → k < p → lone rows k ≡ false) × ((t : ℕ) → bit all t ≡ some p (λ p. arc-bit rows p t))
+Inv-loop rows n all₀ p₀ all p =
+    (p ≤ n) × Reaches rows n × ((k : ℕ) → k < p → lone rows k ≡ false) × ((t : ℕ) → bit all t ≡ some p (λ p. arc-bit rows p t))
 
 abbrev μ-loop : tie.MeasureT-loop
-μ-loop rows all₀ p₀ all p = 128 - p
+μ-loop rows n all₀ p₀ all p = n - p
 
 loop-holds : tie.Need-loop-holds Inv-loop μ-loop
 unfolding some
-loop-holds c = (omega arith, none-yet _, bit-zero)
+loop-holds c = (omega arith, c .pre, none-yet _, bit-zero)
 
 add-union : tie.Need-add-union Inv-loop μ-loop
 add-union c = search needs
@@ -60,12 +60,12 @@ tested : (c : tie.After-place-alone Inv-loop μ-loop)
 tested c =
     let arcs = c .before .before .union in
     c .place-alone .ensures
-    ∙ lone-place _ (c .before .before .before .before .before .before .loop .p) (arcs .result) (c .before .before .before .before .before .loop-test .taken) (omega arith) (arcs .ensures)
+    ∙ lone-place _ (c .before .before .before .before .before .before .loop .p) (arcs .result) (omega arith) (omega arith) (arcs .ensures)
 
 returns : tie.Need-returns Inv-loop μ-loop
 returns c =
     let at = c .before .before .before .before .before .before .before .loop in
-    sym (first-is 192 _ (at .p) (omega arith) (sym (tested (c .before)) ∙ c .if1 .taken) (at .inv .1))
+    sym (first-is 192 _ (at .p) (omega arith) (sym (tested (c .before)) ∙ c .if1 .taken) (at .inv .2))
 
 union-requires-2 : tie.Need-union-requires-2 Inv-loop μ-loop
 union-requires-2 c κs = search needs
@@ -82,8 +82,9 @@ loop-again c =
     let at = c .before .before .before .before .before .before .before .before .loop in
     let arcs = c .before .before .before .before .union in (
       omega arith,
-      none-more (at .p) _ (at .inv .1) (sym (tested (c .before .before)) ∙ c .before .if1 .left),
-      more-arcs rows (at .p) (at .all) (arcs .result) (c .union2 .result) (at .inv .2) (arcs .ensures) (c .union2 .ensures),
+      at .inv .1,
+      none-more (at .p) _ (at .inv .2) (sym (tested (c .before .before)) ∙ c .before .if1 .left),
+      more-arcs rows (at .p) (at .all) (arcs .result) (c .union2 .result) (at .inv .3) (arcs .ensures) (c .union2 .ensures),
     )
 
 first-transition-requires : tie.Need-first-transition-requires Inv-loop μ-loop
@@ -99,7 +100,7 @@ returns-2 : tie.Need-returns-2 Inv-loop μ-loop
 returns-2 c =
     let at = c .before .before .loop in
     ap (λ (n : ℕ). 128 + n) (c .first-transition .ensures)
-    ∙ lone-first _ (at .p) (at .all) (omega arith) (at .inv .1) (at .inv .2)
+    ∙ lone-first _ _ (at .p) (at .all) (at .inv .1) (omega arith) (at .inv .2) (at .inv .3)
 
 pub first-lone-spec : {M : Type 1} → statement M
 first-lone-spec =

@@ -1,24 +1,29 @@
--- The loop keeps that no transition before t is alone.
+-- The loop keeps that no transition before t is alone; and past n there is none.
 use mathlib.Core.Bool.{false, not, _&&_}
 use mathlib.Core.Path.{_≡_, sym, _∙_}
 use Prim.Native.Nat.{ℕ, _-_, _≤_, _<_}
 use native.Mathlib.Omega.{arith}
 use borrow.Author.Needs.{needs}
 use Rattle.meaning.specs.Bytes.{bit}
-use Rattle.meaning.proofs.Below.{first-is, first-none}
-use Rattle.table.specs.Index.{has-transition}
-use Rattle.table.proofs.Firsts.{none-yet, none-more}
+use Rattle.meaning.proofs.Below.{first-is}
+use Rattle.table.specs.Index.{transitions-below, has-transition}
+use Rattle.table.proofs.Firsts.{few-transitions, none-yet, none-more, none-left}
 use Rattle.table.proofs.first_transition.Statement.{statement}
 use Rattle.table.proofs.first_transition.Tie as tie
 
 abbrev Inv-loop : tie.InvT-loop
-Inv-loop rows arcs t₀ t = (t ≤ 64) × ((k : ℕ) → k < t → (has-transition rows k && not (bit arcs k)) ≡ false)
+Inv-loop rows arcs n most t₀ t = (t ≤ most) × (most ≡ transitions-below n) × (most ≤ 64) × ((k : ℕ) → k < t → (has-transition rows k && not (bit arcs k)) ≡ false)
 
 abbrev μ-loop : tie.MeasureT-loop
-μ-loop rows arcs t₀ t = 64 - t
+μ-loop rows arcs n most t₀ t = most - t
+
+transitions-requires : tie.Need-transitions-requires Inv-loop μ-loop
+transitions-requires c κs = search needs
 
 loop-holds : tie.Need-loop-holds Inv-loop μ-loop
-loop-holds c = (omega arith, none-yet _)
+loop-holds c =
+    let few = c .transitions .ensures in
+    (omega arith, few, omega (arith, few, few-transitions (c .before .args .n)), none-yet _)
 
 add-transition-alone : tie.Need-add-transition-alone Inv-loop μ-loop
 add-transition-alone c = search needs
@@ -35,7 +40,7 @@ transition-alone-requires c κs = search needs
 returns : tie.Need-returns Inv-loop μ-loop
 returns c =
     let at = c .before .before .before .before .loop in
-    sym (first-is 64 _ (at .t) (c .before .before .before .loop-test .taken) (sym (c .before .transition-alone .ensures) ∙ c .if1 .taken) (at .inv .1))
+    sym (first-is 64 _ (at .t) (omega arith) (sym (c .before .transition-alone .ensures) ∙ c .if1 .taken) (at .inv .3))
 
 add-t : tie.Need-add-t Inv-loop μ-loop
 add-t c = search needs
@@ -46,10 +51,13 @@ loop-less c = search needs
 loop-again : tie.Need-loop-again Inv-loop μ-loop
 loop-again c =
     let at = c .before .before .before .before .loop in
-    (omega arith, none-more (at .t) _ (at .inv .1) (sym (c .before .transition-alone .ensures) ∙ c .if1 .left))
+    (omega arith, at .inv .1, at .inv .2, none-more (at .t) _ (at .inv .3) (sym (c .before .transition-alone .ensures) ∙ c .if1 .left))
 
 returns-2 : tie.Need-returns-2 Inv-loop μ-loop
-returns-2 c = sym (first-none 64 _ (λ k h. c .before .loop .inv .1 k (omega arith)))
+returns-2 c =
+    let start = c .before .before .before in
+    let at = c .before .loop in
+    none-left (start .args .rows .now) (start .args .n) (at .t) (start .args .arcs) (start .pre) (omega (arith, at .inv .1)) (at .inv .3)
 
 pub first-transition-spec : {M : Type 1} → statement M
 first-transition-spec =
@@ -57,6 +65,7 @@ first-transition-spec =
     (tie.spec
     Inv-loop
     μ-loop
+    transitions-requires
     loop-holds
     add-transition-alone
     mul-transition-alone

@@ -1,0 +1,34 @@
+-- What an accepted table says of its arcs and of its length: each fact is read off a check that found nothing.
+use mathlib.Core.Bool.{not}
+use mathlib.Core.List.{List}
+use mathlib.Core.Path.{_≡_, ap}
+use Prim.Native.Nat.{ℕ, _%_, _≤_, _<_}
+use native.Mathlib.Omega.{arith}
+use lib.Dec.{eqb, ltb}
+use lib.ListN.{length}
+use borrow.Author.Tests.{ltb-false}
+use Rattle.meaning.specs.Table.{table}
+use Rattle.meaning.specs.Answer.{Answer, accepted}
+use Rattle.meaning.specs.Defined.{bad-length, table-checks, check}
+use Rattle.meaning.specs.Says.{Shown}
+use Rattle.meaning.proofs.Bool.{or-false-right}
+use Rattle.meaning.proofs.Same.{of-kind}
+use Rattle.meaning.proofs.Decide.{accepted-clean}
+use Rattle.meaning.proofs.Tables.{table-refusing}
+use Rattle.meaning.proofs.Sound.{check-sound}
+
+ranges : {o t s f x : ℕ} → Shown 3 o t s f x → (o < 128) × (t < 64) × (1 ≤ f) × (f ≤ 65535)
+ranges (Shown.arc a b c d e) = (omega arith, omega arith, d, e)
+
+module _ (bs : List ℕ) (e : check bs ≡ accepted 0) where
+  -- An arc's place, transition and weight are in range.
+  pub arc-ranges : (r : ℕ) → r < table bs .records → table bs .kind r ≡ 3
+      → (table bs .one r < 128) × (table bs .two r < 64) × (1 ≤ table bs .four r) × (table bs .four r ≤ 65535)
+  arc-ranges r h k = ranges (of-kind (table bs) r 3 (check-sound bs (ap (λ (a : Answer). a .number) e) .shown r h) k)
+
+  -- At most 1,024 records.
+  pub few-records : table bs .records ≤ 1024
+  unfolding table check table-checks bad-length
+  few-records =
+      let short = accepted-clean (table-checks bs) (accepted 0) (table-refusing bs) (ap (λ (a : Answer). a .number) e) .0 0 (omega arith) in
+      omega (arith, ltb-false 8192 (length bs) (or-false-right (not (eqb (length bs % 8) 0)) (ltb 8192 (length bs)) short))
