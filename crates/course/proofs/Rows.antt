@@ -1,48 +1,58 @@
 -- What the rows of a cycle are: those that the call brings, and those made of them.
-use mathlib.Core.Bool.{Bool, false, not, _&&_}
+use mathlib.Core.Bool.{Bool, true, false, cond, not, _&&_, _||_, and-false}
 use mathlib.Core.List.{List}
-use mathlib.Core.Path.{_≡_, sym, _∙_}
-use Prim.Native.Nat.{ℕ, _+_, _≤_, _<_}
+use mathlib.Core.Path.{_≡_, refl, sym, _∙_}
+use Prim.Native.Nat.{ℕ, zero, suc, _+_, _≤_, _<_}
 use native.Mathlib.Omega.{arith}
 use lib.Dec.{eqb}
 use lib.ListN.{getD}
-use Rattle.meaning.specs.Below.{some}
+use borrow.Author.Tests.{ne-eqb}
 use Rattle.meaning.specs.Bytes.{bit}
-use Rattle.meaning.specs.Table.{table}
-use Rattle.meaning.proofs.Below.{none-elim}
-use Rattle.places.specs.declared.Places.{Places}
-use Rattle.places.specs.Set.{has}
-use Rattle.net.specs.Rows.{Gathered, Blank-from}
+use Rattle.meaning.specs.Table.{Table, table, is}
+use Rattle.meaning.specs.Priority.{through, above as stands-above}
+use Rattle.net.specs.Rows.{Gathered, Blank-from, Weights, Sorts}
 use Rattle.net.proofs.Reach.{gathered-blank}
-use Rattle.net.specs.Chains.{Chained}
+use Rattle.net.specs.Chains.{Chained, Touches}
 use Rattle.timing.specs.declared.Intervals.{Intervals}
 use Rattle.timing.proofs.Carry.{untimed}
 use Rattle.table.specs.Index.{transitions-below}
 use Rattle.table.proofs.Carry.{transition-bit}
 use Rattle.table.proofs.Firsts.{past-transitions, few-transitions}
-use Rattle.enabled.specs.declared.Inputs.{Inputs}
-use Rattle.enabled.specs.Inputs.{Inputs-of}
+use Rattle.enabled.specs.Inputs.{Inputs, Inputs-of}
 use Rattle.enabled.specs.Held.{Empty-from, Sorted}
 use Rattle.edges.specs.Edges.{Limits}
+use Rattle.fire.specs.Rivals.{Rivals}
 use Rattle.cycle.specs.Step.{Net-of}
 use Rattle.cycle.proofs.Facts.{fine}
 use Rattle.course.specs.Course.{Read}
 
-module _ {bs : List ℕ} {x : Intervals} {index above : List ℕ} {w s : List (List ℕ)} {takers truths falses : List ℕ} {reach : ℕ}
-    (read : Read bs x index above w s takers truths falses reach) where
+-- Whoever is the lower one in no pair has nobody above it.
+unnamed : (tb : Table) (n u t : ℕ) → ((r : ℕ) → r < n → ¬ (tb .two r ≡ t)) → through tb n u t ≡ false
+unfolding through
+unnamed tb zero u t none = refl
+unnamed tb (suc r) u t none =
+    let apart : eqb t (tb .two r) ≡ false = ne-eqb t (tb .two r) (λ e. none r (omega arith) (sym e)) in
+    let before : (v : ℕ) → through tb r v t ≡ false = λ v. unnamed tb r v t (λ q h. none q (omega arith)) in
+    rw (before u, apart, before (tb .two r), and-false (eqb u (tb .one r) || through tb r u (tb .one r))) (go (is tb 5 r))
+  where
+    go : (b : Bool) → cond b false false ≡ false
+    go true = refl
+    go false = refl
+
+module _ {bs : List ℕ} {x : Intervals} {index above takers truths falses : List ℕ} {reach : ℕ} (read : Read bs x index above takers truths falses reach) where
   pub net-of : (known : ℕ) → ((t : ℕ) → t < 64 → bit known t ≡ bit (getD index (128 + t) 0) 0)
       → (timed : ℕ) → ((t : ℕ) → t < 64 → bit timed t ≡ not (eqb (getD (x .sorts) t 0) 0))
       → (conditional : ℕ) → ((t : ℕ) → t < 64 → bit conditional t ≡ not (eqb (getD truths t 0) 0 && eqb (getD falses t 0) 0))
       → (higher : List ℕ) → ((t u : ℕ) → t < 64 → u < 64 → bit (getD higher t 0) u ≡ bit (getD above u 0) t)
-      → (lower : ℕ) → ((t : ℕ) → bit lower t ≡ some 64 (λ u. bit (getD above u 0) t))
-      → (acting : Places) → ((p : ℕ) → p < 128 → has acting p ≡ not (eqb (getD index (576 + p) 0) 0))
       → (n : ℕ) → Empty-from index n → (limit last : List ℕ) → Limits x limit last
-      → (inputs : Inputs) → Inputs-of index inputs → (plain curbs most : List ℕ) → Sorted index w s plain curbs most
-      → (takes puts next : List ℕ) → Chained (table bs) 0 takes next → Chained (table bs) 3 puts next
-      → Net-of bs known timed conditional lower acting n x limit last index higher w s takers (inputs .low) (inputs .high) plain curbs most takes puts next truths
-      falses
-  net-of known known-is timed timed-is conditional conditional-is higher higher-is lower lower-is acting acting-is n within limit last limits inputs inputs-hold
-      plain curbs most arcs takes puts next taking putting =
+      → (inputs : Inputs) → Inputs-of index inputs
+      → (rivals : List ℕ) (lower : ℕ) → Rivals higher takers (inputs .low) (inputs .high) rivals lower
+      → (w s : List (List ℕ)) → Weights (table bs) w → Sorts (table bs) s
+      → (plain curbs : List ℕ) → Sorted index s plain curbs
+      → (takes puts next near far : List ℕ) → Chained (table bs) 0 takes next → Chained (table bs) 3 puts next → Touches (table bs) (table bs .records) near far
+      → Net-of bs known timed conditional lower n x limit last index rivals w s takers (inputs .low) (inputs .high) plain curbs takes puts next near far truths falses
+  net-of known known-is timed timed-is conditional conditional-is higher higher-is n within limit last limits inputs inputs-hold rivals lower rivals-are w s weights sorts plain curbs
+      arcs takes puts next near far taking putting touching =
       record {
         sound = read .sound;
         index-holds = read .index-holds;
@@ -51,19 +61,32 @@ module _ {bs : List ℕ} {x : Intervals} {index above : List ℕ} {w s : List (L
         conditional-is = conditional-is;
         times = read .times;
         limits = limits;
+        higher = higher;
         higher-is = λ t u h l. higher-is t u h l ∙ read .higher-is u t l h;
-        lower-is = λ t h e u l. higher-is t u h l ∙ none-elim 64 (λ v. bit (getD above v 0) t) (sym (lower-is t) ∙ e) u l;
-        weights = read .weights;
-        sorts = read .sorts;
+        rivals-are = rivals-are;
+        weights = weights;
+        sorts = sorts;
         takers-hold = read .takers-hold;
         inputs = inputs-hold;
         within = within;
         arcs = arcs;
         taking = taking;
         putting = putting;
-        acting-is = acting-is;
+        touching = touching;
         truths-hold = read .truths-hold;
         falses-hold = read .falses-hold;
+      }
+
+  -- Nobody stands above a transition past those below the reach.
+  pub unranked : (k : ℕ) → k ≡ transitions-below reach → (higher : List ℕ)
+      → ((t u : ℕ) → t < 64 → u < 64 → bit (getD higher t 0) u ≡ bit (getD above u 0) t) → Blank-from 64 k higher
+  unfolding stands-above
+  unranked k e higher turned =
+      record {
+        most = omega (arith, e, few-transitions reach);
+        none = λ t u l h i.
+            turned t u h i ∙ read .higher-is u t i h
+            ∙ unnamed (table bs) (table bs .records) u t (λ r j q. omega (arith, q, read .below r j .1, past-transitions reach t (omega (arith, e)) h));
       }
 
   -- Past the transitions below the reach nothing is timed, and nothing is asked.

@@ -66,7 +66,7 @@ module _ (bs img ws report : List ℕ) (sound : check bs ≡ accepted 0) (ready 
   -- The run ends here: what the arrays and the report hold is what the trace leaves.
   ends : (i : ℕ) (h : Held) (out : List ℕ) (at : At bs img ws report i h out) (k p : ℕ)
       → trace (table bs) (words ws) img ≡ record { number = k; at = p; cycles = i; image = at .reached; written = at .written }
-      → Halts bs img ws report (record { state = h; number = k; at = p; cycles = i }) out
+      → Halts bs img ws report (record { orders = h .orders; number = k; at = p; cycles = i }) (h .tokens) (h .counters) out
   ends i h out at k p e =
       record {
         answer-is = rw e refl;
@@ -89,8 +89,7 @@ module _ (bs img ws report : List ℕ) (sound : check bs ≡ accepted 0) (ready 
 
     -- A place would be overfull: the run ends with 13, and nothing of this cycle is kept.
     pub bursts : r .over < 128
-        → Halts bs img ws report
-        (record { state = record { tokens = tokens; counters = counters; orders = h .orders }; number = 13; at = r .over; cycles = i }) out
+        → Halts bs img ws report (record { orders = h .orders; number = 13; at = r .over; cycles = i }) tokens counters out
     bursts l =
         let same = step .kept l in
         rw (same .0, same .1)
@@ -159,7 +158,7 @@ module _ (bs img ws report : List ℕ) (sound : check bs ≡ accepted 0) (ready 
 
   -- The (words ws) are done.
   pub finished : (h : Held) (out : List ℕ) → At bs img ws report (length ws / 8) h out
-      → Halts bs img ws report (record { state = h; number = 0; at = 0; cycles = length ws / 8 }) out
+      → Halts bs img ws report (record { orders = h .orders; number = 0; at = 0; cycles = length ws / 8 }) (h .tokens) (h .counters) out
   finished h out at = ends (length ws / 8) h out at 0 0 (trace-finishes (table bs) (rw (sym none-left) (at .steps)))
     where
       none-left : drop (length ws / 8) (words ws) ≡ []

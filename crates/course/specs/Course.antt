@@ -8,12 +8,12 @@ use lib.ListN.{length, getD}
 use Rattle.meaning.specs.Below.{first}
 use Rattle.meaning.specs.Bytes.{bit}
 use Rattle.meaning.specs.Table.{table}
-use Rattle.meaning.specs.Answer.{Answer, accepted}
+use Rattle.meaning.specs.Answer.{accepted}
 use Rattle.meaning.specs.Priority.{above}
 use Rattle.meaning.specs.Defined.{check}
 use Rattle.meaning.specs.Image.{image, image-bytes, wrong}
 use Rattle.meaning.specs.Calls.{words-of, trace, Run, ran}
-use Rattle.net.specs.Rows.{Gathered, Weights, Sorts}
+use Rattle.net.specs.Rows.{Gathered}
 use Rattle.timing.specs.declared.Intervals.{Intervals}
 use Rattle.timing.specs.Times.{Times-of}
 use Rattle.table.specs.Index.{Indexed, Reaches, transitions-below}
@@ -23,8 +23,7 @@ use Rattle.course.specs.declared.Halted.{Halted}
 use Rattle.course.specs.declared.Ended.{Ended}
 
 -- The bytes spell an accepted table, whose numbers are below n, and the rows are its own.
-pub record Read (bs : List ℕ) (x : Intervals) (index higher : List ℕ) (w s : List (List ℕ))
-    (takers truths falses : List ℕ) (n : ℕ) : Type 0 where
+pub record Read (bs : List ℕ) (x : Intervals) (index higher takers truths falses : List ℕ) (n : ℕ) : Type 0 where
   pub sound : check bs ≡ accepted 0
   pub index-holds : Indexed (table bs) (table bs .records) index
   pub reaches : Reaches index n
@@ -32,8 +31,6 @@ pub record Read (bs : List ℕ) (x : Intervals) (index higher : List ℕ) (w s :
   pub times : Times-of (table bs) x
   pub higher-is : (u t : ℕ) → u < 64 → t < 64 → bit (getD higher u 0) t ≡ above (table bs) u t
   pub bare : Bare (transitions-below n) higher
-  pub weights : Weights (table bs) w
-  pub sorts : Sorts (table bs) s
   pub takers-hold : Gathered (table bs) 3 0 takers
   pub truths-hold : Gathered (table bs) 4 0 truths
   pub falses-hold : Gathered (table bs) 4 1 falses
@@ -50,12 +47,12 @@ abbrev pub left-by : List ℕ → List ℕ → List ℕ → List ℕ → Run
 left-by bs img ws report = ran (trace (table bs) (words-of (length ws / 8) ws) img) report
 
 -- The cycles are done: the answer and the report are the trace's, and its image is the one lent where no cycle is finished, else that of the
--- state.
-pub record Halts (bs img ws report : List ℕ) (e : Halted) (report′ : List ℕ) : Type 0 where
+-- state that the arrays hold.
+pub record Halts (bs img ws report : List ℕ) (e : Halted) (tokens counters report′ : List ℕ) : Type 0 where
   pub answer-is : record { number = e .number; at = e .at; cycles = e .cycles } ≡ left-by bs img ws report .answer
-  pub image-is : cond (eqb (e .cycles) 0) img (image-bytes (held (e .state))) ≡ left-by bs img ws report .image
+  pub image-is : cond (eqb (e .cycles) 0) img (image-bytes (held (record { tokens = tokens; counters = counters; orders = e .orders }))) ≡ left-by bs img ws report .image
   pub report-is : report′ ≡ left-by bs img ws report .report
-  pub small : Small (e .state)
+  pub small : Small (record { tokens = tokens; counters = counters; orders = e .orders })
 
 -- The answer, the image and the report are the trace's.
 pub record Ends (bs img ws report : List ℕ) (e : Ended) (img′ report′ : List ℕ) : Type 0 where

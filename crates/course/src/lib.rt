@@ -1,50 +1,89 @@
 // The cycles of a call: one a word, from the image that is lent into the report that is lent.
-use image::Held;
-use places::Places;
 use timing::Intervals;
 ghost use mathlib.Core.Bool.{cond};
 ghost use mathlib.Core.Path.{_≡_};
 ghost use lib.Dec.{eqb};
-ghost use lib.ListN.{length};
+ghost use Prim.Native.Nat.{ℕ, _+_, _≤_, _<_};
+ghost use lib.ListN.{length, getD, replicate};
+ghost use Rattle.meaning.specs.Table.{table, total, arc};
 ghost use Rattle.meaning.specs.Image.{image-bytes};
 ghost use Rattle.image.specs.Held.{Small, held};
-ghost use Rattle.cycle.specs.Step.{Net-of};
+ghost use Rattle.cycle.specs.Step.{Net-of, Sized};
 ghost use Rattle.course.specs.Course.{Read, Ready, Halts, Ends};
 
-// How the words came to their end: the state then, number and where, and the finished cycles.
+// How the words came to their end: the reset orders then, number and where, and the finished cycles.
 struct Halted {
-    state: Held,
+    orders: u64,
     number: usize,
     at: usize,
     cycles: usize,
 }
 
-// The same without the state.
+// The same without the orders.
 pub struct Ended {
     pub number: usize,
     pub at: usize,
     pub cycles: usize,
 }
 
-// One cycle a word over the rows of the table, until one is refused or the words are done. Each finished cycle writes its record.
+// A number with the bits of both, so at least as large as each.
+fn joined(x: u32, y: u32) -> u32
+    ensures { λ r. ⌜ (x ≤ r) × (y ≤ r) × (x ≤ 65535 → y ≤ 65535 → r ≤ 65535) ⌝ }
+{
+    x | y
+}
+
+// A number that no place has more tokens than: all their bits together.
+fn largest(m: &[u32; 128]) -> u32
+    requires { ⌜ ((p : ℕ) → p < 128 → getD (now m) p 0 ≤ 65535) ⌝ }
+    ensures { λ r. ⌜ (r ≤ 65535) × ((p : ℕ) → p < 128 → getD (now (m .entry)) p 0 ≤ r) ⌝ }
+{
+    let mut r: u32 = 0;
+    let mut p = 0;
+    while p < 128 {
+        r = joined(r, m[p]);
+        p += 1;
+    }
+    r
+}
+
+// A number that no place comes above in the next cycle, in which no more than `gain` is put anywhere: by the number that none is above now, and
+// where that leaves room for too many, by looking.
+fn ceiling(top: u32, gain: u32, m: &[u32; 128]) -> u32
+    requires { ⌜ (gain ≤ 67107840) × (top ≤ 65535 + gain) ⌝ }
+    requires { ⌜ ((p : ℕ) → p < 128 → getD (now m) p 0 ≤ top) ⌝ }
+    requires { ⌜ ((p : ℕ) → p < 128 → getD (now m) p 0 ≤ 65535) ⌝ }
+    ensures { λ r. ⌜ (r ≤ 65535 + gain) × ((p : ℕ) → p < 128 → getD (now (m .entry)) p 0 + gain ≤ r) ⌝ }
+{
+    let most = top + gain;
+    if most <= 65535 {
+        return most;
+    }
+    largest(m) + gain
+}
+
+// One cycle a word over the rows of the table, from the state that the image holds, until one is refused or the words are done. Each finished cycle
+// writes its record; the tokens and counters are those after the last. All post arcs together weigh `gain`.
 fn cycles(
     t: &[u8],
     image: &[u8],
     words: &[u8],
     report: &mut [u8],
+    tokens: &mut [u32; 128],
+    counters: &mut [u32; 64],
     known: u64,
     timed: u64,
     conditional: u64,
     lower: u64,
-    acting: Places,
     n: usize,
+    gain: u32,
     sorts: &[u8; 64],
     a: &[u16; 64],
     b: &[u16; 64],
     limit: &[u32; 64],
     last: &[u32; 64],
     index: &[u64; 768],
-    higher: &[u64; 64],
+    rivals: &[u64; 64],
     w: &[[u16; 64]; 128],
     s: &[[u8; 64]; 128],
     takers: &[u64; 128],
@@ -52,34 +91,57 @@ fn cycles(
     high: &[u64; 64],
     plain: &[u64; 128],
     curbs: &[u64; 128],
-    most: &[u32; 128],
     takes: &[u16; 64],
     puts: &[u16; 64],
     next: &[u16; 1024],
+    near: &[u64; 64],
+    far: &[u64; 64],
     truths: &[u64; 128],
     falses: &[u64; 128],
 ) -> Halted
-    requires { ⌜ Net-of (now t) known timed conditional lower acting n (record { sorts = now sorts; a = now a; b = now b }) (now limit) (now last) (now index) (now higher) (now w) (now s) (now takers) (now low) (now high) (now plain) (now curbs) (now most) (now takes) (now puts) (now next) (now truths) (now falses) ⌝ }
+    requires { ⌜ Net-of (now t) known timed conditional lower n (record { sorts = now sorts; a = now a; b = now b }) (now limit) (now last) (now index) (now rivals) (now w) (now s) (now takers) (now low) (now high) (now plain) (now curbs) (now takes) (now puts) (now next) (now near) (now far) (now truths) (now falses) ⌝ }
+    requires { ⌜ gain ≡ total (table (now t)) (arc (table (now t)) 3) (table (now t) .four) ⌝ }
+    requires { ⌜ gain ≤ 67107840 ⌝ }
+    requires { ⌜ Sized (now tokens) (now counters) ⌝ }
     requires { ⌜ Ready (now t) (now image) (now words) (now report) ⌝ }
-    ensures { λ e. ⌜ Halts (now (t .entry)) (now (image .entry)) (now (words .entry)) (now (report .entry)) e (now (report .exit)) ⌝ }
+    ensures { λ e. ⌜ Halts (now (t .entry)) (now (image .entry)) (now (words .entry)) (now (report .entry)) e (now (tokens .exit)) (now (counters .exit)) (now (report .exit)) ⌝ }
 {
     let count = words.len() / 8;
-    let h = image::load(image);
-    let mut tokens = h.tokens;
-    let mut counters = h.counters;
-    let mut orders = h.orders;
+    let mut orders = image::load(image, tokens, counters);
     let mut held = [0u64; 128];
-    enabled::hold(&mut held, &tokens, index, plain, curbs, most, w, s, n);
+    let mut shown = [0u64; 128];
+    let mut from = [0u32; 128];
+    let mut upto = [4294967295u32; 128];
+    enabled::hold(
+        tokens,
+        index,
+        plain,
+        curbs,
+        w,
+        s,
+        n,
+        &mut held,
+        &mut shown,
+        &mut from,
+        &mut upto,
+    );
+    let mut before = [0u32; 64];
     let mut taken = [0u32; 128];
     let mut put = [0u32; 128];
+    let mut top: u32 = 65535;
     let mut i = 0;
     while i < count {
         let word = words::word(words, i);
+        top = ceiling(top, gain, tokens);
         let r = cycle::step(
             t,
-            &mut tokens,
-            &mut counters,
+            tokens,
+            counters,
+            &mut before,
             &mut held,
+            &mut shown,
+            &mut from,
+            &mut upto,
             &mut taken,
             &mut put,
             orders,
@@ -88,15 +150,15 @@ fn cycles(
             timed,
             conditional,
             lower,
-            acting,
             n,
+            top,
             sorts,
             a,
             b,
             limit,
             last,
             index,
-            higher,
+            rivals,
             w,
             s,
             takers,
@@ -104,21 +166,18 @@ fn cycles(
             high,
             plain,
             curbs,
-            most,
             takes,
             puts,
             next,
+            near,
+            far,
             truths,
             falses,
         );
         let over = r.over;
         if over < 128 {
             return Halted {
-                state: Held {
-                    tokens,
-                    counters,
-                    orders,
-                },
+                orders,
                 number: 13,
                 at: over,
                 cycles: i,
@@ -129,11 +188,7 @@ fn cycles(
         i += 1;
     }
     Halted {
-        state: Held {
-            tokens,
-            counters,
-            orders,
-        },
+        orders,
         number: 0,
         at: 0,
         cycles: count,
@@ -141,19 +196,19 @@ fn cycles(
 }
 
 // The image after so many finished cycles: as lent where there is none, else that of the state.
-fn keep(image: &mut [u8], h: Held, done: usize)
+fn keep(image: &mut [u8], tokens: &[u32; 128], counters: &[u32; 64], orders: u64, done: usize)
     requires { ⌜ length (now image) ≡ 768 ⌝ }
-    requires { ⌜ Small h ⌝ }
-    ensures { λ _. ⌜ now (image .exit) ≡ cond (eqb done 0) (now (image .entry)) (image-bytes (held h)) ⌝ }
+    requires { ⌜ Small (record { tokens = now tokens; counters = now counters; orders = orders }) ⌝ }
+    ensures { λ _. ⌜ now (image .exit) ≡ cond (eqb done 0) (now (image .entry)) (image-bytes (held (record { tokens = now (tokens .entry); counters = now (counters .entry); orders = orders }))) ⌝ }
 {
     if done == 0 {
         return;
     }
-    image::save(image, h);
+    image::save(image, tokens, counters, orders);
 }
 
 // The cycles of a call whose checks are passed: what the rows leave out is made of them, then one cycle a word, then the image is written. With
-// no words nothing is done. No number in the table is at the reach or past it.
+// no words nothing is done. No number in the table is at the reach or past it. The arrays for the input arcs are lent empty.
 pub fn course(
     t: &[u8],
     image: &mut [u8],
@@ -162,14 +217,16 @@ pub fn course(
     x: Intervals,
     index: &[u64; 768],
     above: &[u64; 64],
-    w: &[[u16; 64]; 128],
-    s: &[[u8; 64]; 128],
+    w: &mut [[u16; 64]; 128],
+    s: &mut [[u8; 64]; 128],
     takers: &[u64; 128],
     truths: &[u64; 128],
     falses: &[u64; 128],
     reach: usize,
 ) -> Ended
-    requires { ⌜ Read (now t) x (now index) (now above) (now w) (now s) (now takers) (now truths) (now falses) reach ⌝ }
+    requires { ⌜ Read (now t) x (now index) (now above) (now takers) (now truths) (now falses) reach ⌝ }
+    requires { ⌜ now w ≡ replicate 128 (replicate 64 0) ⌝ }
+    requires { ⌜ now s ≡ replicate 128 (replicate 64 0) ⌝ }
     requires { ⌜ Ready (now t) (now image) (now words) (now report) ⌝ }
     ensures { λ e. ⌜ Ends (now (t .entry)) (now (image .entry)) (now (words .entry)) (now (report .entry)) e (now (image .exit)) (now (report .exit)) ⌝ }
 {
@@ -183,21 +240,32 @@ pub fn course(
     let mut takes = [0u16; 64];
     let mut puts = [0u16; 64];
     let mut next = [0u16; 1024];
-    net::chains(t, &mut takes, &mut puts, &mut next);
+    let mut near = [0u64; 64];
+    let mut far = [0u64; 64];
+    let gain = net::lay_arcs(
+        t,
+        w,
+        s,
+        &mut takes,
+        &mut puts,
+        &mut next,
+        &mut near,
+        &mut far,
+    );
     let fewer = table::transitions(reach);
-    let higher = priority::turn(above, fewer);
-    let lower = priority::lower(above, fewer);
-    let inputs = enabled::inputs_of(index, reach);
-    let low = inputs.low;
-    let high = inputs.high;
-    let n = enabled::bound(index);
+    let mut higher = [0u64; 64];
+    priority::turn(above, fewer, &mut higher);
+    let mut low = [0u64; 64];
+    let mut high = [0u64; 64];
+    enabled::inputs_of(index, reach, &mut low, &mut high);
+    let mut rivals = [0u64; 64];
+    let lower = fire::rivals(&higher, takers, &low, &high, &mut rivals, fewer);
+    let n = enabled::bound(index, reach);
     let mut plain = [0u64; 128];
     let mut curbs = [0u64; 128];
-    let mut most = [0u32; 128];
-    enabled::sort_arcs(&mut plain, &mut curbs, &mut most, index, w, s, n);
+    enabled::sort_arcs(&mut plain, &mut curbs, index, s, n);
     let known = enabled::known(index, reach);
     let timed = enabled::timed(x, fewer);
-    let acting = report::acting(index, reach);
     let conditional = edges::conditional(truths, falses, fewer);
     let sorts = x.sorts;
     let a = x.a;
@@ -205,24 +273,28 @@ pub fn course(
     let mut limit = [0u32; 64];
     let mut last = [0u32; 64];
     edges::limits(&mut limit, &mut last, &sorts, &a, &b, fewer);
+    let mut tokens = [0u32; 128];
+    let mut counters = [0u32; 64];
     let e = cycles(
         t,
         image,
         words,
         report,
+        &mut tokens,
+        &mut counters,
         known,
         timed,
         conditional,
         lower,
-        acting,
         n,
+        gain,
         &sorts,
         &a,
         &b,
         &limit,
         &last,
         index,
-        &higher,
+        &rivals,
         w,
         s,
         takers,
@@ -230,15 +302,16 @@ pub fn course(
         &high,
         &plain,
         &curbs,
-        &most,
         &takes,
         &puts,
         &next,
+        &near,
+        &far,
         truths,
         falses,
     );
     let done = e.cycles;
-    keep(image, e.state, done);
+    keep(image, &tokens, &counters, e.orders, done);
     Ended {
         number: e.number,
         at: e.at,

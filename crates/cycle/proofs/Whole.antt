@@ -1,21 +1,20 @@
 -- What the parts of a cycle say of the rows is what the meaning says of the table.
-use mathlib.Core.Bool.{Bool, true, false, cond, not, _&&_, _||_}
+use mathlib.Core.Bool.{Bool, true, false, cond, not, _&&_, _||_, and-false}
 use mathlib.Core.List.{List}
 use mathlib.Core.Path.{_≡_, refl, sym, ap, _∙_, fun-ext}
 use Prim.Native.Nat.{ℕ, _+_, _-_, _^_, _≤_, _<_}
 use native.Mathlib.Omega.{arith}
 use lib.Dec.{ltb, eqb}
 use lib.ListN.{length, getD}
-use borrow.Author.Tests.{lt-ltb, le-ltb, ltb-false}
+use borrow.Author.Tests.{lt-ltb, le-ltb, ltb-true, ltb-false}
 use Rattle.meaning.specs.Below.{some, sum, first, within}
 use Rattle.meaning.specs.Bytes.{bit}
-use Rattle.meaning.specs.Table.{Table, table, total, transition, timing, ceiling}
+use Rattle.meaning.specs.Table.{Table, table, total, arc, transition, timing, ceiling}
 use Rattle.meaning.specs.Cycle.{enabled, counted, falling, as-wanted, in-time, firable, withdrawn, added, fired, rising, marked, reset, active, executed, overfull}
-use Rattle.meaning.proofs.Below.{first-same, first-before}
+use Rattle.meaning.proofs.Below.{first-same, first-none}
 use Rattle.meaning.proofs.Bool.{or-false-left, or-false-right}
 use Rattle.meaning.proofs.Accepted.{accepted-well}
 use Rattle.table.proofs.Carry.{Clean}
-use Rattle.places.specs.declared.Places.{Places}
 use Rattle.places.specs.Set.{has}
 use Rattle.net.specs.Rows.{Weights, Sorts, cell}
 use Rattle.timing.specs.declared.Intervals.{Intervals}
@@ -23,23 +22,23 @@ use Rattle.timing.proofs.Carry.{sort-is}
 use Rattle.image.specs.declared.Held.{Held}
 use Rattle.image.specs.Held.{held, Holds, Small}
 use Rattle.enabled.specs.Inputs.{enabled-by}
-use Rattle.enabled.specs.Held.{Weighty, Holds-back}
-use Rattle.enabled.proofs.Carry.{enabled-same, arc-cell, held-same}
+use Rattle.enabled.specs.Held.{Weighty, Levels}
+use Rattle.enabled.proofs.Carry.{enabled-same, arc-cell, held-same, shown-same}
 use Rattle.edges.specs.Edges.{fallen, fallen-at, Falls, firable-at}
 use Rattle.edges.proofs.Carry.{fallen-same, timely-same, asked-same}
 use Rattle.moves.specs.declared.Moved.{Moved}
 use Rattle.moves.specs.Moves.{moved-at}
-use Rattle.moves.specs.Tallied.{Unmoved, Tallied, moved-by, moved-at-all}
-use Rattle.moves.proofs.Carry.{withdrawn-same, taken-is, put-is, unmoved}
+use Rattle.moves.specs.Tallied.{Tallied, moved-by, moved-at-all}
+use Rattle.moves.proofs.Carry.{withdrawn-same, taken-is, put-is, unmoved, gain-covers}
 use Rattle.moves.proofs.Sums.{load-most}
 use Rattle.moves.proofs.Turns.{in-range}
 use Rattle.net.proofs.Arcs.{few-records}
 use Rattle.fire.specs.Fired.{Ranks, Fires}
-use Rattle.fire.proofs.Carry.{well-ranks, fires-is}
+use Rattle.fire.proofs.Carry.{well-ranks, fires-is, rivals-rank, rivals-suffice}
 use Rattle.settle.specs.Settle.{new-at, Low, Crowded, Settled, Starves}
 use Rattle.settle.proofs.Carry.{starves-same}
-use Rattle.report.proofs.Carry.{bits-of, acting-same, actions-are, functions-are}
-use Rattle.cycle.specs.Step.{Net-of, Sized, Poised, Stepped}
+use Rattle.report.proofs.Carry.{bits-of, actions-are, functions-are}
+use Rattle.cycle.specs.Step.{Net-of, Sized, Poised, Under, Stepped}
 use Rattle.cycle.proofs.Facts.{weight-low, sound, arcs, input-once, conditions, untimed, fine}
 
 -- Four tests, the last three together.
@@ -47,15 +46,15 @@ grouped : (a b c d : Bool) → (a && b && c && d) ≡ (a && (b && c && d))
 grouped true b c d = refl
 grouped false b c d = refl
 
-module _ (bs : List ℕ) (known timed conditional lower : ℕ) (acting : Places) (n : ℕ) (x : Intervals) (limit last index higher : List ℕ)
-    (w s : List (List ℕ)) (takers low high plain curbs most takes puts next truths falses : List ℕ)
-    (net : Net-of bs known timed conditional lower acting n x limit last index higher w s takers low high plain curbs most takes puts next truths falses) where
+module _ {bs : List ℕ} {known timed conditional lower n : ℕ} {x : Intervals} {limit last index rivals : List ℕ}
+    {w s : List (List ℕ)} {takers low high plain curbs takes puts next near far truths falses : List ℕ}
+    (net : Net-of bs known timed conditional lower n x limit last index rivals w s takers low high plain curbs takes puts next near far truths falses) where
   clean : Clean (table bs) index
   clean = record { fine = fine bs (net .sound); index = net .index-holds }
 
-  -- Whoever stands above is ranked lower.
-  pub ranks : Ranks higher
-  ranks = well-ranks (table bs) (accepted-well bs (net .sound)) higher (net .higher-is)
+  -- Whoever stands above is ranked lower, so rivals are.
+  pub ranks : Ranks rivals
+  ranks = rivals-rank (net .rivals-are) (well-ranks (table bs) (accepted-well bs (net .sound)) (net .higher) (net .higher-is))
 
   timed-bit : (t : ℕ) → t < 64 → bit timed t ≡ not (eqb (timing (table bs) t) 0)
   timed-bit t l = net .timed-is t l ∙ ap (λ (k : ℕ). not (eqb k 0)) (sort-is (table bs) (sound bs (net .sound)) x (net .times) t l)
@@ -86,25 +85,49 @@ module _ (bs : List ℕ) (known timed conditional lower : ℕ) (acting : Places)
       let most = load-most (table bs) sort (λ k l a. in-range bs (net .sound) sort k l a .3) (λ k. F (table bs .two k)) p in
       omega (arith, most, few-records bs (net .sound))
 
-  module _ (h : Held) (small : Small h) (stopped : List ℕ) (back : Holds-back index w s (h .tokens) stopped) (shut on : ℕ)
-      (shut-is : (t : ℕ) → bit shut t ≡ some n (λ p. bit (getD stopped p 0) t)) (on-is : (t : ℕ) → bit on t ≡ (bit known t && not (bit shut t)))
-      (counters : List ℕ) (falls : Falls timed x (h .orders) on (h .counters) counters) where
+  -- What the parts of a cycle with a word have told, from the state that h holds and what is kept of its places: the counters after the falling
+  -- edge, the set f that fires, what it takes and puts, where, and its functions.
+  pub record Told (h : Held) (word : ℕ) (stopped shown from upto counters : List ℕ) (f : ℕ) (taken put : List ℕ) (moved : Moved) : Type 0 where
+    pub small : Small h
+    pub levels : Levels index w s (h .tokens) stopped shown from upto
+    pub shut : ℕ
+    pub shut-is : (t : ℕ) → bit shut t ≡ some n (λ p. bit (getD stopped p 0) t)
+    pub on : ℕ
+    pub on-is : (t : ℕ) → bit on t ≡ (bit known t && not (bit shut t))
+    pub falls : Falls timed x (h .orders) on (h .counters) counters
+    pub able : ℕ
+    pub able-is : (t : ℕ) → bit able t ≡ (ltb t 64 && firable-at x counters on truths falses word t)
+    pub low-set : f < 2 ^ 64
+    pub fires : Fires able rivals (h .tokens) w s takers low high f
+    pub tallied : Tallied (table bs) f index taken put moved
+
+  module _ {h : Held} {word : ℕ} {stopped shown from upto counters : List ℕ} {f : ℕ} {taken put : List ℕ} {moved : Moved}
+      (told : Told h word stopped shown from upto counters f taken put moved) where
+    abbrev small : Small h
+    small = told .small
+
+    abbrev on : ℕ
+    on = told .on
+
+    abbrev tallied : Tallied (table bs) f index taken put moved
+    tallied = told .tallied
+
     -- The set of the enabled has the enabled transitions.
     on-bit : (t : ℕ) → t < 64 → bit on t ≡ (transition (table bs) t && enabled (table bs) (held h .tokens) t)
     on-bit t l =
-        on-is t
+        told .on-is t
         ∙ rw (
           net .known-is t l,
-          shut-is t,
+          told .shut-is t,
           held-same (table bs) w s index (record { low = low; high = high }) (net .weights) (net .sorts) clean (net .inputs) (arcs bs (net .sound))
-              (input-once bs (net .sound)) t l n (net .within) (h .tokens) stopped back,
+              (input-once bs (net .sound)) t l n (net .within) (h .tokens) stopped shown from upto (told .levels),
           enables (h .tokens) t l,
         )
 
     -- The counter of an untimed transition stays, as it does at the falling edge.
     fallen-is : (t : ℕ) → t < 64 → getD counters t 0 ≡ fallen-at x (h .counters) (h .orders) on t
     unfolding fallen
-    fallen-is t l = falls .holds t l ∙ go (eqb (timing (table bs) t) 0) refl
+    fallen-is t l = told .falls .holds t l ∙ go (eqb (timing (table bs) t) 0) refl
       where
         sort : getD (x .sorts) t 0 ≡ timing (table bs) t
         sort = sort-is (table bs) (sound bs (net .sound)) x (net .times) t l
@@ -124,178 +147,174 @@ module _ (bs : List ℕ) (known timed conditional lower : ℕ) (acting : Places)
             fallen-same (table bs) (sound bs (net .sound)) x (net .times) t l (held h) (h .counters) (h .orders) on refl refl (on-bit t l ∙ rw e)
         go false e = rw (sort-is (table bs) (sound bs (net .sound)) x (net .times) t l, untimed bs (net .sound) t e)
 
-    module _ (word able : ℕ) (able-is : (t : ℕ) → bit able t ≡ (ltb t 64 && firable-at x counters on truths falses word t)) where
-      -- The firable ones are.
-      able-bit : (t : ℕ) → t < 64 → bit able t ≡ firable (table bs) (falling (table bs) (held h)) word t
-      unfolding firable falling
-      able-bit t l =
-          able-is t
-          ∙ rw (
-            lt-ltb t 64 l,
-            on-bit t l,
-            asked-same (table bs) truths falses (net .truths-hold) (net .falses-hold) (conditions bs (net .sound)) word t l,
-            timely-same (table bs) (sound bs (net .sound)) x (net .times) t l (getD counters t 0),
-            counter-is t l,
-          )
-          (grouped (transition (table bs) t) _ _ _)
+    -- The firable ones are.
+    able-bit : (t : ℕ) → t < 64 → bit (told .able) t ≡ firable (table bs) (falling (table bs) (held h)) word t
+    unfolding firable falling
+    able-bit t l =
+        told .able-is t
+        ∙ rw (
+          lt-ltb t 64 l,
+          on-bit t l,
+          asked-same (table bs) truths falses (net .truths-hold) (net .falses-hold) (conditions bs (net .sound)) word t l,
+          timely-same (table bs) (sound bs (net .sound)) x (net .times) t l (getD counters t 0),
+          counter-is t l,
+        )
+        (grouped (transition (table bs) t) _ _ _)
 
-      module _ (f : ℕ) (f-low : f < 2 ^ 64) (fires : Fires able higher (h .tokens) w s takers low high f) where
-        pub fired-bit : (t : ℕ) → bit f t ≡ within (fired (table bs) (falling (table bs) (held h)) word) t
-        unfolding falling
-        fired-bit =
-            fires-is (table bs) (accepted-well bs (net .sound)) higher (net .higher-is) (falling (table bs) (held h)) word able (h .tokens) w s takers low high
-            able-bit (λ p l. refl) takes-by-rows enables f f-low fires
+    pub fired-bit : (t : ℕ) → bit f t ≡ within (fired (table bs) (falling (table bs) (held h)) word) t
+    unfolding falling
+    fired-bit =
+        fires-is (table bs) (accepted-well bs (net .sound)) (net .higher) (net .higher-is) (falling (table bs) (held h)) word (told .able) (h .tokens) w s takers low high
+        able-bit (λ p l. refl) takes-by-rows enables f (told .low-set) (rivals-suffice (net .rivals-are) (told .low-set) (told .fires))
 
-        -- So the sets are one, and a law about one is a law about the other.
-        one-set : bit f ≡ within (fired (table bs) (falling (table bs) (held h)) word)
-        one-set = fun-ext fired-bit
+    -- So the sets are one, and a law about one is a law about the other.
+    one-set : bit f ≡ within (fired (table bs) (falling (table bs) (held h)) word)
+    one-set = fun-ext fired-bit
 
-        -- What the fired ones take and put, and where.
-        module _ (nowhere : Places) (nothing : (p : ℕ) → has nowhere p ≡ false) (taken put : List ℕ) (from to : Moved)
-            (taking : Tallied (table bs) 0 f (h .tokens) nowhere taken from) (putting : Tallied (table bs) 3 f (h .tokens) (from .at) put to) where
-          is-taken : (p : ℕ) → p < 128 → getD taken p 0 ≡ withdrawn (table bs) (bit f) p
-          is-taken = taken-is (table bs) f (h .tokens) nowhere taken from taking
+    is-taken : (p : ℕ) → p < 128 → getD taken p 0 ≡ withdrawn (table bs) (bit f) p
+    is-taken = taken-is (table bs) f index taken put moved tallied
 
-          is-put : (p : ℕ) → p < 128 → getD put p 0 ≡ added (table bs) (bit f) p
-          is-put = put-is (table bs) f (h .tokens) (from .at) put to putting
+    is-put : (p : ℕ) → p < 128 → getD put p 0 ≡ added (table bs) (bit f) p
+    is-put = put-is (table bs) f index taken put moved tallied
 
-          -- Elsewhere nothing is taken, and nothing is put.
-          not-taken : (p : ℕ) → p < 128 → has (to .at) p ≡ false → getD taken p 0 ≡ 0
-          not-taken p l e =
-              let none = or-false-left (has (from .at) p) _ (sym (putting .at-is p l) ∙ e) in
-              taking .moved-is p l ∙ unmoved (table bs) 0 (bit f) p (or-false-right (has nowhere p) _ (sym (taking .at-is p l) ∙ none))
+    -- Elsewhere nothing is taken, and nothing is put.
+    not-taken : (p : ℕ) → p < 128 → has (moved .at) p ≡ false → getD taken p 0 ≡ 0
+    not-taken p l e = tallied .taken-is p l ∙ unmoved (table bs) 0 (bit f) p (or-false-left _ (moved-at-all (table bs) 3 (bit f) p) (sym (tallied .at-is p l) ∙ e))
 
-          put-none : (p : ℕ) → p < 128 → moved-at-all (table bs) 3 (bit f) p ≡ false → getD put p 0 ≡ 0
-          put-none p l e = putting .moved-is p l ∙ unmoved (table bs) 3 (bit f) p e
+    not-put : (p : ℕ) → p < 128 → has (moved .at) p ≡ false → getD put p 0 ≡ 0
+    not-put p l e = tallied .put-is p l ∙ unmoved (table bs) 3 (bit f) p (or-false-right (moved-at-all (table bs) 0 (bit f) p) _ (sym (tallied .at-is p l) ∙ e))
 
-          not-put : (p : ℕ) → p < 128 → has (to .at) p ≡ false → getD put p 0 ≡ 0
-          not-put p l e = put-none p l (or-false-right (has (from .at) p) _ (sym (putting .at-is p l) ∙ e))
+    abbrev new : ℕ → ℕ
+    new = new-at (h .tokens) taken put
 
-          abbrev new : ℕ → ℕ
-          new = new-at (h .tokens) taken put
+    stays : (p : ℕ) → p < 128 → has (moved .at) p ≡ false → new p ≡ getD (h .tokens) p 0
+    stays p l e = rw (not-taken p l e, not-put p l e) (omega arith)
 
-          stays : (p : ℕ) → p < 128 → has (to .at) p ≡ false → new p ≡ getD (h .tokens) p 0
-          stays p l e = rw (not-taken p l e, not-put p l e) (omega arith)
+    -- The new tokens are those of the new marking.
+    token-is : (p : ℕ) → p < 128
+        → new p
+        ≡ marked (table bs) (held h .tokens) (within (fired (table bs) (falling (table bs) (held h)) word)) p
+    unfolding marked
+    token-is p l =
+        let here : new p ≡ marked (table bs) (held h .tokens) (bit f) p = rw (is-taken p l, is-put p l) in
+        here ∙ ap (λ (F : ℕ → Bool). marked (table bs) (held h .tokens) F p) one-set
 
-          -- The new tokens are those of the new marking.
-          token-is : (p : ℕ) → p < 128
-              → new p
-              ≡ marked (table bs) (held h .tokens) (within (fired (table bs) (falling (table bs) (held h)) word)) p
-          unfolding marked
-          token-is p l =
-              let here : new p ≡ marked (table bs) (held h .tokens) (bit f) p = rw (is-taken p l, is-put p l) in
-              here ∙ ap (λ (F : ℕ → Bool). marked (table bs) (held h .tokens) F p) one-set
+    pub low-enough : Low (h .tokens) put
+    low-enough = record { tokens = small .tokens; put-low = λ p l. rw (tallied .put-is p l) (put-most 3 (bit f) p) }
 
-          pub low-enough : Low (h .tokens) put
-          low-enough = record { tokens = small .tokens; put-low = λ p l. rw (putting .moved-is p l) (put-most 3 (bit f) p) }
+    -- No place comes above the ceiling.
+    module _ (ceiling : ℕ) (under : Under bs (h .tokens) ceiling) where
+      pub topped : (p : ℕ) → p < 128 → new p ≤ ceiling
+      topped p l =
+          let gain : getD put p 0 ≤ total (table bs) (arc (table bs) 3) (table bs .four) = rw (tallied .put-is p l) (gain-covers (table bs) (bit f) p) in
+          omega (arith, under .room p l, gain)
 
-          -- A place at which something is put is counted for the crowd, and any other has no more than it had.
-          pub crowded : Crowded (to .at) (to .crowd) (h .tokens) taken put
-          crowded = record { few = λ p l e c. go p l c (moved-at-all (table bs) 3 (bit f) p) refl }
-            where
-              go : (p : ℕ) → p < 128 → to .crowd ≤ 65535 → (b : Bool) → moved-at-all (table bs) 3 (bit f) p ≡ b → new p ≤ 65535
-              go p l c true e = omega (arith, c, putting .crowd-is p l e)
-              go p l c false e = omega (arith, put-none p l e, small .tokens p l)
+      pub crowded : Crowded (moved .at) ceiling (h .tokens) taken put
+      crowded = record { few = λ p l e c. omega (arith, c, topped p l) }
 
-          module _ (over : ℕ) (over-is : over ≡ first 128 (λ p. has (to .at) p && ltb 65535 (new p))) (actions functions : ℕ)
-              (actions-is : (k : ℕ) → bit actions k ≡ some 128 (λ p. has acting p && (ltb 0 (getD (h .tokens) p 0) && bit (getD index (576 + p) 0) k)))
-              (functions-is : (k : ℕ) → bit functions k ≡ some 64 (λ t. bit f t && bit (getD index (704 + t) 0) k))
-              (actions-low : actions < 2 ^ 64) (functions-low : functions < 2 ^ 64) where
-            -- No place elsewhere is overfull.
-            first-is : over ≡ first 128 (overfull (table bs) (rising (table bs) (falling (table bs) (held h)) (within (fired (table bs) (falling (table bs) (held h)) word))))
-            unfolding falling rising overfull ceiling
-            first-is = over-is ∙ first-same 128 _ _ (λ p l. go p l (has (to .at) p) refl ∙ ap (ltb 65535) (token-is p l))
-              where
-                go : (p : ℕ) → p < 128 → (b : Bool) → has (to .at) p ≡ b → (b && ltb 65535 (new p)) ≡ ltb 65535 (new p)
-                go p l true e = refl
-                go p l false e = sym (rw (stays p l e) (le-ltb 65535 (getD (h .tokens) p 0) (small .tokens p l)))
+      -- With a ceiling that a place may have there is no overfull place.
+      pub only-crowded : (over : ℕ) → over ≡ first 128 (λ p. has (moved .at) p && ltb 65535 (new p)) → over < 128 → 65535 < ceiling
+      only-crowded over over-is l = go (ltb 65535 ceiling) refl
+        where
+          go : (b : Bool) → ltb 65535 ceiling ≡ b → 65535 < ceiling
+          go true e = ltb-true 65535 ceiling e
+          go false e =
+              let low : ceiling ≤ 65535 = ltb-false 65535 ceiling e in
+              let none : first 128 (λ p. has (moved .at) p && ltb 65535 (new p)) ≡ 128 =
+              first-none 128 _ (λ p h. rw (le-ltb 65535 (new p) (omega (arith, low, topped p h))) (and-false (has (moved .at) p))) in
+              absurd (omega (arith, l, over-is, none))
 
-            -- What the cycle says, whatever it leaves.
-            pub says : (orders : ℕ) (tokens after : List ℕ) (kept : over < 128 → (tokens ≡ h .tokens) × (after ≡ h .counters) × (orders ≡ h .orders))
-                → (128 ≤ over → Holds (record { tokens = tokens; counters = after; orders = orders })
-                (rising (table bs) (falling (table bs) (held h)) (within (fired (table bs) (falling (table bs) (held h)) word))))
-                → Sized tokens after
-                → Stepped (table bs) h word (record { fired = f; actions = actions; functions = functions; over = over; orders = orders }) tokens after
-            says orders tokens after kept holds sized =
-                record {
-                  fired-is = bits-of f _ f-low (λ t l. fired-bit t);
-                  actions-are =
-                      bits-of actions _ actions-low
-                      (λ k l. actions-is k ∙ acting-same clean acting (net .acting-is) (held h .tokens) k ∙ actions-are clean (held h .tokens) k l);
-                  functions-are =
-                      bits-of functions _ functions-low
-                      (λ k l. functions-is k ∙ functions-are clean (bit f) k l ∙ ap (λ (F : ℕ → Bool). executed (table bs) F k) one-set);
-                  over-is = first-is;
-                  kept = kept;
-                  next-holds = holds;
-                  sized = sized;
-                }
+    -- The places are settled.
+    module _ {tokens taken′ put′ : List ℕ} (settled : Settled (h .tokens) (moved .at) taken put tokens taken′ put′) where
+      settles : (p : ℕ) → p < 128 → getD tokens p 0 ≡ new p
+      settles p l = settled .tokens p l ∙ go (has (moved .at) p) refl
+        where
+          go : (b : Bool) → has (moved .at) p ≡ b → cond b (new p) (getD (h .tokens) p 0) ≡ new p
+          go true e = refl
+          go false e = sym (stays p l e)
 
-            -- A place would be overfull, and all stays.
-            pub bursts : over < 128 → Sized (h .tokens) (h .counters)
-                → Stepped (table bs) h word (record { fired = f; actions = actions; functions = functions; over = over; orders = h .orders }) (h .tokens) (h .counters)
-            bursts l sized = says (h .orders) (h .tokens) (h .counters) (λ b. (refl, refl, refl)) (λ b. absurd (omega (arith, b, l))) sized
+      -- No place is above the ceiling.
+      pub topped-still : (ceiling : ℕ) → Under bs (h .tokens) ceiling → (p : ℕ) → p < 128 → getD tokens p 0 ≤ ceiling
+      topped-still ceiling under p l = rw (settles p l) (topped ceiling under p l)
 
-            module _ (full : 128 ≤ over) (starved after : ℕ) (starves : Starves (h .tokens) (to .at) taken plain w starved)
-                (after-is : (t : ℕ) → bit after t ≡ (bit timed t && (bit f t || bit starved t))) (tokens taken′ put′ : List ℕ)
-                (settled : Settled (h .tokens) (to .at) taken put tokens taken′ put′) where
-              -- The orders are those after the rising edge.
-              order-is : (t : ℕ) → t < 64 → bit after t ≡ reset (table bs) (held h .tokens) (bit f) t
-              unfolding reset
-              order-is t l =
-                  after-is t
-                  ∙ rw (
-                    timed-bit t l,
-                    starves-same (table bs) w s index (record { low = low; high = high }) (net .weights) (net .sorts) clean (net .inputs)
-                        (arcs bs (net .sound)) (input-once bs (net .sound)) t l (h .tokens) taken plain curbs most (to .at) starved (net .arcs) starves (bit f)
-                        is-taken not-taken,
-                  )
+      -- What was taken and put is done with.
+      pub poised : {held shown from upto : List ℕ} → Levels index w s tokens held shown from upto → Poised index w s tokens held shown from upto taken′ put′
+      poised again =
+          record {
+            levels = again;
+            none-taken = record { size = settled .sizes .1; none = λ p l. settled .no-taken p l ∙ clear p l (has (moved .at) p) refl };
+            none-put = record { size = settled .sizes .2; none = λ p l. settled .no-put p l ∙ clear-put p l (has (moved .at) p) refl };
+          }
+        where
+          clear : (p : ℕ) → p < 128 → (b : Bool) → has (moved .at) p ≡ b → cond b 0 (getD taken p 0) ≡ 0
+          clear p l true e = refl
+          clear p l false e = not-taken p l e
 
-              settles : (p : ℕ) → p < 128 → getD tokens p 0 ≡ new p
-              settles p l = settled .tokens p l ∙ go (has (to .at) p) refl
-                where
-                  go : (b : Bool) → has (to .at) p ≡ b → cond b (new p) (getD (h .tokens) p 0) ≡ new p
-                  go true e = refl
-                  go false e = sym (stays p l e)
+          clear-put : (p : ℕ) → p < 128 → (b : Bool) → has (moved .at) p ≡ b → cond b 0 (getD put p 0) ≡ 0
+          clear-put p l true e = refl
+          clear-put p l false e = not-put p l e
 
-              pub stepped : length counters ≡ 64
-                  → Stepped (table bs) h word (record { fired = f; actions = actions; functions = functions; over = over; orders = after }) tokens counters
-              unfolding falling rising
-              stepped size =
-                  says after tokens counters (λ b. absurd (omega (arith, b, full)))
-                  (λ b.
-                  record {
-                    tokens = λ p l. settles p l ∙ token-is p l;
-                    counters = counter-is;
-                    orders = λ t l. order-is t l ∙ ap (λ (F : ℕ → Bool). reset (table bs) (held h .tokens) F t) one-set;
-                  })
-                  (record { places = settled .sizes .0; transitions = size })
+    module _ (over : ℕ) (over-is : over ≡ first 128 (λ p. has (moved .at) p && ltb 65535 (new p))) (actions : ℕ)
+        (actions-is : (k : ℕ) → bit actions k ≡ some n (λ p. bit (getD shown p 0) k)) (actions-low : actions < 2 ^ 64) (functions-low : moved .functions < 2 ^ 64) where
+      -- No place elsewhere is overfull.
+      first-is : over ≡ first 128 (overfull (table bs) (rising (table bs) (falling (table bs) (held h)) (within (fired (table bs) (falling (table bs) (held h)) word))))
+      unfolding falling rising overfull ceiling
+      first-is = over-is ∙ first-same 128 _ _ (λ p l. go p l (has (moved .at) p) refl ∙ ap (ltb 65535) (token-is p l))
+        where
+          go : (p : ℕ) → p < 128 → (b : Bool) → has (moved .at) p ≡ b → (b && ltb 65535 (new p)) ≡ ltb 65535 (new p)
+          go p l true e = refl
+          go p l false e = sym (rw (stays p l e) (le-ltb 65535 (getD (h .tokens) p 0) (small .tokens p l)))
 
-              -- No place has more tokens than it may, and what was taken and put is done with.
-              tokens-low : (p : ℕ) → p < 128 → getD tokens p 0 ≤ 65535
-              tokens-low p l = rw (settles p l) (go (has (to .at) p) refl)
-                where
-                  overfull-at : ℕ → Bool
-                  overfull-at q = has (to .at) q && ltb 65535 (new q)
+      -- What the cycle says, whatever it leaves.
+      pub says : (orders : ℕ) (tokens after : List ℕ) (kept : over < 128 → (tokens ≡ h .tokens) × (after ≡ h .counters) × (orders ≡ h .orders))
+          → (128 ≤ over → Holds (record { tokens = tokens; counters = after; orders = orders })
+          (rising (table bs) (falling (table bs) (held h)) (within (fired (table bs) (falling (table bs) (held h)) word))))
+          → Sized tokens after
+          → Stepped (table bs) h word (record { fired = f; actions = actions; functions = moved .functions; over = over; orders = orders }) tokens after
+      says orders tokens after kept holds sized =
+          record {
+            fired-is = bits-of f _ (told .low-set) (λ t l. fired-bit t);
+            actions-are =
+                bits-of actions _ actions-low
+                (λ k l. actions-is k ∙ shown-same n (net .within) (told .levels) k ∙ actions-are clean (held h .tokens) k l);
+            functions-are =
+                bits-of (moved .functions) _ functions-low
+                (λ k l. tallied .functions-are k ∙ functions-are clean (bit f) k l ∙ ap (λ (F : ℕ → Bool). executed (table bs) F k) one-set);
+            over-is = first-is;
+            kept = kept;
+            next-holds = holds;
+            sized = sized;
+          }
 
-                  go : (b : Bool) → has (to .at) p ≡ b → new p ≤ 65535
-                  go true e =
-                      let inside : p < first 128 overfull-at = omega (arith, over-is, full) in
-                      ltb-false 65535 (new p) (rw e at (first-before 128 overfull-at p inside))
-                  go false e = rw (stays p l e) (small .tokens p l)
+      -- A place would be overfull, and all stays.
+      pub bursts : over < 128 → Sized (h .tokens) (h .counters)
+          → Stepped (table bs) h word (record { fired = f; actions = actions; functions = moved .functions; over = over; orders = h .orders }) (h .tokens) (h .counters)
+      bursts l sized = says (h .orders) (h .tokens) (h .counters) (λ b. (refl, refl, refl)) (λ b. absurd (omega (arith, b, l))) sized
 
-              pub poised : (stopped′ : List ℕ) → Holds-back index w s tokens stopped′ → Poised index w s tokens stopped′ taken′ put′
-              poised stopped′ again =
-                  record {
-                    back = again;
-                    none-taken = record { size = settled .sizes .1; none = λ p l. settled .no-taken p l ∙ clear p l (has (to .at) p) refl; tokens = tokens-low };
-                    none-put = record { size = settled .sizes .2; none = λ p l. settled .no-put p l ∙ clear-put p l (has (to .at) p) refl; tokens = tokens-low };
-                  }
-                where
-                  clear : (p : ℕ) → p < 128 → (b : Bool) → has (to .at) p ≡ b → cond b 0 (getD taken p 0) ≡ 0
-                  clear p l true e = refl
-                  clear p l false e = not-taken p l e
+      module _ (full : 128 ≤ over) (starved after : ℕ) (starves : Starves (h .tokens) (moved .at) taken plain w starved)
+          (after-is : (t : ℕ) → bit after t ≡ (bit timed t && (bit f t || bit starved t))) {tokens taken′ put′ : List ℕ}
+          (settled : Settled (h .tokens) (moved .at) taken put tokens taken′ put′) where
+        -- The orders are those after the rising edge.
+        order-is : (t : ℕ) → t < 64 → bit after t ≡ reset (table bs) (held h .tokens) (bit f) t
+        unfolding reset
+        order-is t l =
+            after-is t
+            ∙ rw (
+              timed-bit t l,
+              starves-same (table bs) w s index (record { low = low; high = high }) (net .weights) (net .sorts) clean (net .inputs)
+                  (arcs bs (net .sound)) (input-once bs (net .sound)) t l (h .tokens) taken plain curbs (moved .at) starved (net .arcs) starves (bit f)
+                  is-taken not-taken,
+            )
 
-                  clear-put : (p : ℕ) → p < 128 → (b : Bool) → has (to .at) p ≡ b → cond b 0 (getD put p 0) ≡ 0
-                  clear-put p l true e = refl
-                  clear-put p l false e = not-put p l e
+        pub stepped : length counters ≡ 64
+            → Stepped (table bs) h word (record { fired = f; actions = actions; functions = moved .functions; over = over; orders = after }) tokens counters
+        unfolding falling rising
+        stepped size =
+            says after tokens counters (λ b. absurd (omega (arith, b, full)))
+            (λ b.
+            record {
+              tokens = λ p l. settles settled p l ∙ token-is p l;
+              counters = counter-is;
+              orders = λ t l. order-is t l ∙ ap (λ (F : ℕ → Bool). reset (table bs) (held h .tokens) F t) one-set;
+            })
+            (record { places = settled .sizes .0; transitions = size })

@@ -1,5 +1,5 @@
 -- The rows of an accepted table, and one cycle over them.
-use mathlib.Core.Bool.{false, not, _&&_}
+use mathlib.Core.Bool.{not, _&&_}
 use mathlib.Core.List.{List}
 use mathlib.Core.Path.{_≡_}
 use Prim.Native.Nat.{ℕ, _+_, _≤_, _<_}
@@ -7,29 +7,28 @@ use lib.Dec.{eqb}
 use lib.ListN.{length, getD}
 use Rattle.meaning.specs.Below.{first, within}
 use Rattle.meaning.specs.Bytes.{bit, bits}
-use Rattle.meaning.specs.Table.{Table, table, transition}
+use Rattle.meaning.specs.Table.{Table, table, total, arc, transition}
 use Rattle.meaning.specs.Answer.{accepted}
 use Rattle.meaning.specs.Priority.{above}
 use Rattle.meaning.specs.Defined.{check}
 use Rattle.meaning.specs.Cycle.{falling, fired, rising, active, executed, overfull}
-use Rattle.places.specs.declared.Places.{Places}
-use Rattle.places.specs.Set.{has}
 use Rattle.net.specs.Rows.{Gathered, Weights, Sorts}
-use Rattle.net.specs.Chains.{Chained}
+use Rattle.net.specs.Chains.{Chained, Touches}
 use Rattle.timing.specs.declared.Intervals.{Intervals}
 use Rattle.timing.specs.Times.{Times-of}
 use Rattle.enabled.specs.Inputs.{Inputs-of}
-use Rattle.enabled.specs.Held.{Empty-from, Sorted, Holds-back}
+use Rattle.enabled.specs.Held.{Empty-from, Sorted, Levels}
 use Rattle.edges.specs.Edges.{Limits}
 use Rattle.moves.specs.Tallied.{Unmoved}
+use Rattle.fire.specs.Rivals.{Rivals}
 use Rattle.table.specs.Index.{Indexed}
 use Rattle.image.specs.declared.Held.{Held}
 use Rattle.image.specs.Held.{held, Holds}
 use Rattle.cycle.specs.declared.Outcome.{Outcome}
 
--- The rows are those of the accepted table that the bytes spell.
-pub record Net-of (bs : List ℕ) (known timed conditional lower : ℕ) (acting : Places) (n : ℕ) (x : Intervals) (limit last index higher : List ℕ)
-    (w s : List (List ℕ)) (takers low high plain curbs most takes puts next truths falses : List ℕ) : Type 0 where
+-- The rows are those of the accepted table that the bytes spell. The rivals of a transition are of those above it, whose rows are `higher`.
+pub record Net-of (bs : List ℕ) (known timed conditional lower n : ℕ) (x : Intervals) (limit last index rivals : List ℕ)
+    (w s : List (List ℕ)) (takers low high plain curbs takes puts next near far truths falses : List ℕ) : Type 0 where
   pub sound : check bs ≡ accepted 0
   pub index-holds : Indexed (table bs) (table bs .records) index
   pub known-is : (t : ℕ) → t < 64 → bit known t ≡ transition (table bs) t
@@ -37,25 +36,30 @@ pub record Net-of (bs : List ℕ) (known timed conditional lower : ℕ) (acting 
   pub conditional-is : (t : ℕ) → t < 64 → bit conditional t ≡ not (eqb (getD truths t 0) 0 && eqb (getD falses t 0) 0)
   pub times : Times-of (table bs) x
   pub limits : Limits x limit last
+  pub higher : List ℕ
   pub higher-is : (t u : ℕ) → t < 64 → u < 64 → bit (getD higher t 0) u ≡ above (table bs) u t
-  pub lower-is : (t : ℕ) → t < 64 → bit lower t ≡ false → (u : ℕ) → u < 64 → bit (getD higher t 0) u ≡ false
+  pub rivals-are : Rivals higher takers low high rivals lower
   pub weights : Weights (table bs) w
   pub sorts : Sorts (table bs) s
   pub takers-hold : Gathered (table bs) 3 0 takers
   pub inputs : Inputs-of index (record { low = low; high = high })
   pub within : Empty-from index n
-  pub arcs : Sorted index w s plain curbs most
+  pub arcs : Sorted index s plain curbs
   pub taking : Chained (table bs) 0 takes next
   pub putting : Chained (table bs) 3 puts next
-  pub acting-is : (p : ℕ) → p < 128 → has acting p ≡ not (eqb (getD index (576 + p) 0) 0)
+  pub touching : Touches (table bs) (table bs .records) near far
   pub truths-hold : Gathered (table bs) 4 0 truths
   pub falses-hold : Gathered (table bs) 4 1 falses
 
--- Each row of `held` has those that its place's tokens hold back, and nothing is taken or put yet.
-pub record Poised (index : List ℕ) (w s : List (List ℕ)) (tokens held taken put : List ℕ) : Type 0 where
-  pub back : Holds-back index w s tokens held
-  pub none-taken : Unmoved tokens taken
-  pub none-put : Unmoved tokens put
+-- What is kept of each place spans its tokens, and nothing is taken or put yet.
+pub record Poised (index : List ℕ) (w s : List (List ℕ)) (tokens held shown from upto taken put : List ℕ) : Type 0 where
+  pub levels : Levels index w s tokens held shown from upto
+  pub none-taken : Unmoved taken
+  pub none-put : Unmoved put
+
+-- The tokens of each place, and with them the weights of all post arcs, stay at or below the ceiling.
+pub record Under (bs tokens : List ℕ) (ceiling : ℕ) : Type 0 where
+  pub room : (p : ℕ) → p < 128 → getD tokens p 0 + total (table bs) (arc (table bs) 3) (table bs .four) ≤ ceiling
 
 -- Every place has its tokens, and every transition its counter.
 pub record Sized (tokens counters : List ℕ) : Type 0 where

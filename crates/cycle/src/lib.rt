@@ -1,10 +1,10 @@
 // One cycle over the rows of an accepted table: the falling edge, then the rising edge.
-use places::Places;
 ghost use mathlib.Core.Path.{_≡_};
-ghost use Prim.Native.Nat.{_≤_};
+ghost use Prim.Native.Nat.{ℕ, _≤_, _<_};
+ghost use lib.ListN.{getD};
 ghost use Rattle.image.specs.Held.{Small};
 ghost use Rattle.meaning.specs.Table.{table};
-ghost use Rattle.cycle.specs.Step.{Net-of, Sized, Poised, Stepped};
+ghost use Rattle.cycle.specs.Step.{Net-of, Sized, Poised, Under, Stepped};
 
 // What a cycle comes to: the three sets of its record, the lowest place that would be overfull (128 if none), and the reset orders after it.
 pub struct Outcome {
@@ -15,14 +15,28 @@ pub struct Outcome {
     pub orders: u64,
 }
 
+// Keeps the counters from before the falling edge, where the cycle may still be refused.
+fn keep(before: &mut [u32; 64], counters: &[u32; 64], ceiling: u32)
+    ensures { λ _. ⌜ (65535 < ceiling → now (before .exit) ≡ now (counters .entry)) ⌝ }
+{
+    if 65535 < ceiling {
+        *before = *counters;
+    }
+}
+
 // One cycle of the table t, whose rows the other arguments are, from the state of these tokens, counters and orders, with a word. The tokens and
-// counters become those after the cycle, and stay as they are where a place would be overfull. Whom the tokens hold back is kept from cycle to
-// cycle; what is taken and put is lent empty, and is empty again after a cycle that is not refused.
+// counters become those after the cycle, and stay as they are where a place would be overfull. What is kept of each place (whom its tokens hold
+// back, what they show, and their level) goes on to the next cycle; what is taken and put is lent empty, and is empty again after a cycle that is
+// not refused. No place comes above the ceiling, whatever fires.
 pub fn step(
     t: &[u8],
     tokens: &mut [u32; 128],
     counters: &mut [u32; 64],
+    before: &mut [u32; 64],
     held: &mut [u64; 128],
+    shown: &mut [u64; 128],
+    from: &mut [u32; 128],
+    upto: &mut [u32; 128],
     taken: &mut [u32; 128],
     put: &mut [u32; 128],
     orders: u64,
@@ -31,15 +45,15 @@ pub fn step(
     timed: u64,
     conditional: u64,
     lower: u64,
-    acting: Places,
     n: usize,
+    ceiling: u32,
     sorts: &[u8; 64],
     a: &[u16; 64],
     b: &[u16; 64],
     limit: &[u32; 64],
     last: &[u32; 64],
     index: &[u64; 768],
-    higher: &[u64; 64],
+    rivals: &[u64; 64],
     w: &[[u16; 64]; 128],
     s: &[[u8; 64]; 128],
     takers: &[u64; 128],
@@ -47,36 +61,37 @@ pub fn step(
     high: &[u64; 64],
     plain: &[u64; 128],
     curbs: &[u64; 128],
-    most: &[u32; 128],
     takes: &[u16; 64],
     puts: &[u16; 64],
     next: &[u16; 1024],
+    near: &[u64; 64],
+    far: &[u64; 64],
     truths: &[u64; 128],
     falses: &[u64; 128],
 ) -> Outcome
-    requires { ⌜ Net-of (now t) known timed conditional lower acting n (record { sorts = now sorts; a = now a; b = now b }) (now limit) (now last) (now index) (now higher) (now w) (now s) (now takers) (now low) (now high) (now plain) (now curbs) (now most) (now takes) (now puts) (now next) (now truths) (now falses) ⌝ }
+    requires { ⌜ Net-of (now t) known timed conditional lower n (record { sorts = now sorts; a = now a; b = now b }) (now limit) (now last) (now index) (now rivals) (now w) (now s) (now takers) (now low) (now high) (now plain) (now curbs) (now takes) (now puts) (now next) (now near) (now far) (now truths) (now falses) ⌝ }
     requires { ⌜ Small (record { tokens = now tokens; counters = now counters; orders = orders }) ⌝ }
     requires { ⌜ Sized (now tokens) (now counters) ⌝ }
-    requires { ⌜ Poised (now index) (now w) (now s) (now tokens) (now held) (now taken) (now put) ⌝ }
+    requires { ⌜ Poised (now index) (now w) (now s) (now tokens) (now held) (now shown) (now from) (now upto) (now taken) (now put) ⌝ }
+    requires { ⌜ Under (now t) (now tokens) ceiling ⌝ }
     ensures { λ r. ⌜ Stepped (table (now (t .entry))) (record { tokens = now (tokens .entry); counters = now (counters .entry); orders = orders }) word r (now (tokens .exit)) (now (counters .exit)) ⌝ }
-    ensures { λ r. ⌜ (128 ≤ r .over → Poised (now (index .entry)) (now (w .entry)) (now (s .entry)) (now (tokens .exit)) (now (held .exit)) (now (taken .exit)) (now (put .exit))) ⌝ }
+    ensures { λ r. ⌜ (128 ≤ r .over → Poised (now (index .entry)) (now (w .entry)) (now (s .entry)) (now (tokens .exit)) (now (held .exit)) (now (shown .exit)) (now (from .exit)) (now (upto .exit)) (now (taken .exit)) (now (put .exit))) ⌝ }
+    ensures { λ r. ⌜ (128 ≤ r .over → (p : ℕ) → p < 128 → getD (now (tokens .exit)) p 0 ≤ ceiling) ⌝ }
 {
     // The falling edge.
     let on = sets::less(known, enabled::all_of(held, n));
-    let before = *counters;
+    let actions = enabled::all_of(shown, n);
+    keep(before, counters, ceiling);
     let ready = edges::fall(counters, timed, orders, on, a, limit, last);
     // The rising edge.
     let able = edges::firable(on, timed, ready, conditional, truths, falses, word);
-    let fired = fire::fired(able, lower, higher, tokens, w, s, takers, low, high);
-    let actions = report::actions(acting, tokens, index);
-    let functions = report::functions(fired, index);
-    let nowhere = Places { low: 0, high: 0 };
-    let from = moves::tally(t, taken, tokens, nowhere, fired, takes, next, 0);
-    let to = moves::tally(t, put, tokens, from.at, fired, puts, next, 3);
-    let at = to.at;
-    let over = settle::over(at, to.crowd, tokens, taken, put);
+    let fired = fire::fired(able, lower, rivals, tokens, w, s, takers, low, high);
+    let moved = moves::tally(t, taken, put, fired, takes, puts, next, near, far, index);
+    let at = moved.at;
+    let functions = moved.functions;
+    let over = settle::over(at, ceiling, tokens, taken, put);
     if over < 128 {
-        *counters = before;
+        *counters = *before;
         return Outcome {
             fired,
             actions,
@@ -88,13 +103,15 @@ pub fn step(
     let starved = settle::settle(
         tokens,
         held,
+        shown,
+        from,
+        upto,
         taken,
         put,
         at,
         index,
         plain,
         curbs,
-        most,
         w,
         s,
     );

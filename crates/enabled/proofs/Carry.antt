@@ -7,7 +7,7 @@ use Prim.Native.Nat.{ℕ, _+_, _-_, _≤_, _<_}
 use native.Mathlib.Omega.{arith}
 use lib.Dec.{leb, ltb, eqb}
 use lib.ListN.{getD}
-use borrow.Author.Tests.{ltb-true, ltb-false, eqb-true, eqb-false, lt-ltb, le-leb, lt-leb, eq-eqb, ne-eqb, not-true}
+use borrow.Author.Tests.{ltb-true, ltb-false, eqb-true, eqb-false, lt-ltb, le-ltb, eq-eqb, ne-eqb, not-true}
 use Rattle.meaning.specs.Below.{some, every}
 use Rattle.meaning.specs.Bytes.{bit}
 use Rattle.meaning.specs.Table.{Table, is, post}
@@ -23,17 +23,9 @@ use Rattle.net.proofs.Carry.{latest-is}
 use Rattle.table.specs.Index.{row}
 use Rattle.table.proofs.Carry.{Clean}
 use Rattle.table.proofs.Rows.{kind-of, Spot, spot, row-test, beq-true}
-use Rattle.enabled.specs.declared.Inputs.{Inputs}
-use Rattle.enabled.specs.Held.{Empty-from, Holds-back, held-by}
-use Rattle.enabled.specs.Inputs.{Inputs-of, in-words, stops-at, enabled-by}
-
--- At most is not above.
-at-most : (a b : ℕ) → leb a b ≡ not (ltb b a)
-at-most a b = go (ltb b a) refl
-  where
-    go : (x : Bool) → ltb b a ≡ x → leb a b ≡ not x
-    go true e = lt-leb a b (ltb-true b a e)
-    go false e = le-leb a b (ltb-false b a e)
+use Rattle.enabled.specs.Held.{Empty-from, Levels, held-by, shown-by}
+use Rattle.enabled.specs.Inputs.{Inputs, Inputs-of, in-words, stops-at, enabled-by}
+use Rattle.enabled.proofs.Held.{at-most, held-now, shown-now}
 
 -- Four tests pass together, so each does.
 each : (a b c d : Bool) → (a && b && c && d) ≡ true → (a ≡ true) × (b ≡ true) × (c ≡ true) × (d ≡ true)
@@ -189,10 +181,10 @@ module _ (tb : Table) (w s : List (List ℕ)) (index : List ℕ) (x : Inputs) (g
       arc-of r h (q .0) (q .1) (q .2)))
 
   -- Whom no place holds back, of the first n places, all others having no arc, is enabled.
-  pub held-same : (n : ℕ) → Empty-from index n → (m held : List ℕ) → Holds-back index w s m held
+  pub held-same : (n : ℕ) → Empty-from index n → (m held shown from upto : List ℕ) → Levels index w s m held shown from upto
       → not (some n (λ p. bit (getD held p 0) t)) ≡ enabled-by m w s (getD (x .low) t 0) (getD (x .high) t 0) t
   unfolding enabled-by held-by
-  held-same n none m held back = ap not (same-test (some n here) (some 128 by-words) there (λ e. back-there (some-elim 128 by-words e)))
+  held-same n none m held shown from upto levels = ap not (same-test (some n here) (some 128 by-words) there (λ e. back-there (some-elim 128 by-words e)))
     where
       here : ℕ → Bool
       here p = bit (getD held p 0) t
@@ -201,7 +193,7 @@ module _ (tb : Table) (w s : List (List ℕ)) (index : List ℕ) (x : Inputs) (g
       by-words p = in-words (getD (x .low) t 0) (getD (x .high) t 0) p && stops-at m w s t p
 
       one : (p : ℕ) → p < 128 → here p ≡ by-words p
-      one p h = ap (λ (k : ℕ). bit k t) (back .holds p h) ∙ bits-bit _ t ht ∙ ap (λ (b : Bool). b && stops-at m w s t p) (sym (in-row p h))
+      one p h = ap (λ (k : ℕ). bit k t) (held-now levels p h) ∙ bits-bit _ t ht ∙ ap (λ (b : Bool). b && stops-at m w s t p) (sym (in-row p h))
 
       there : some n here ≡ true → some 128 by-words ≡ true
       there e =
@@ -215,5 +207,39 @@ module _ (tb : Table) (w s : List (List ℕ)) (index : List ℕ) (x : Inputs) (g
           go : (b : Bool) → ltb p n ≡ b → some n here ≡ true
           go true l = some-intro n here p (ltb-true p n l) (one p h ∙ e)
           go false l =
-              let empty = none .empty p (ltb-false p n l) h in
+              let empty = none .no-arc p (ltb-false p n l) h in
               not-both (and-left (in-words (getD (x .low) t 0) (getD (x .high) t 0) p) _ e) (in-row p h ∙ rw (empty, bit-zero t))
+
+-- The actions that the first n places show, all others having none, are those of the places with a token.
+pub shown-same : {index : List ℕ} {w s : List (List ℕ)} {m held shown from upto : List ℕ} (n : ℕ) → Empty-from index n → Levels index w s m held shown from upto
+    → (k : ℕ) → some n (λ p. bit (getD shown p 0) k) ≡ some 128 (λ p. ltb 0 (getD m p 0) && bit (getD index (576 + p) 0) k)
+shown-same {index} {w} {s} {m} {held} {shown} n none levels k = same-test (some n here) (some 128 there) forth (λ e. back (some-elim 128 there e))
+  where
+    here : ℕ → Bool
+    here p = bit (getD shown p 0) k
+
+    there : ℕ → Bool
+    there p = ltb 0 (getD m p 0) && bit (getD index (576 + p) 0) k
+
+    one : (p : ℕ) → p < 128 → here p ≡ there p
+    one p h = ap (λ (x : ℕ). bit x k) (shown-now levels p h) ∙ go (eqb (getD m p 0) 0) refl
+      where
+        go : (b : Bool) → eqb (getD m p 0) 0 ≡ b → bit (cond b 0 (getD index (576 + p) 0)) k ≡ there p
+        go true e = bit-zero k ∙ sym (rw (eqb-true (getD m p 0) 0 e, le-ltb 0 0 (omega arith)))
+        go false e =
+            let apart : ¬ (getD m p 0 ≡ 0) = eqb-false (getD m p 0) 0 e in
+            sym (rw (lt-ltb 0 (getD m p 0) (omega (arith, apart))))
+
+    forth : some n here ≡ true → some 128 there ≡ true
+    forth e =
+        let p = some-elim n here e in
+        let low : p .0 < 128 = omega (arith, p .1, none .within) in
+        some-intro 128 there (p .0) low (sym (one (p .0) low) ∙ p .2)
+
+    back : (p : ℕ) × (p < 128) × (there p ≡ true) → some n here ≡ true
+    back (p, h, e) = go (ltb p n) refl
+      where
+        go : (b : Bool) → ltb p n ≡ b → some n here ≡ true
+        go true l = some-intro n here p (ltb-true p n l) (one p h ∙ e)
+        go false l =
+            not-both (and-right (ltb 0 (getD m p 0)) _ e) (rw (none .no-action p (ltb-false p n l) h) (bit-zero k))

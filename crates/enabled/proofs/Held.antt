@@ -1,4 +1,4 @@
--- What the arcs' rows say of whom tokens hold back: with the highest weight nobody lacks any, with none everybody does.
+-- What the rows of a place's arcs say of whom its tokens hold back, on their level.
 use mathlib.Core.Bool.{Bool, true, false, cond, not, _&&_, _||_, and-true, and-false, or-false}
 use mathlib.Core.List.{List, []}
 use mathlib.Core.Path.{_≡_, refl, sym, ap, _∙_}
@@ -7,57 +7,119 @@ use native.Mathlib.Omega.{arith}
 use lib.Dec.{leb, ltb, eqb}
 use lib.ListN.{length, getD, set, replicate, length-replicate, getD-replicate, List·getD-eq-default}
 use lib.Seq.{getD-set-same, getD-set-other}
-use borrow.Author.Tests.{eqb-true, eqb-false, ltb-true, ltb-false, lt-ltb, le-ltb}
+use borrow.Author.Tests.{eqb-true, eqb-false, ltb-true, ltb-false, lt-ltb, le-ltb, lt-leb, le-leb, eq-eqb, ne-eqb}
 use Rattle.meaning.specs.Bytes.{bit, bits}
-use Rattle.meaning.proofs.Bool.{and-left}
-use Rattle.sets.proofs.Bits.{bit-zero, bit-under, bits-bit, bits-low, same-set}
+use Rattle.sets.proofs.Bits.{bit-zero, bits-bit, bits-low, same-set}
 use Rattle.net.specs.Rows.{cell}
-use Rattle.enabled.specs.Held.{Bounded, Weighty, Sorted, held-by}
+use Rattle.enabled.specs.declared.Level.{Level}
+use Rattle.enabled.specs.Held.{Sorted, held-by, shown-by, Spans, Levels, Moves-to}
 
-module _ {arcs most : ℕ} {w : List ℕ} (b : Bounded arcs most w) where
-  pub nobody : (k : ℕ) → most ≤ k → (t : ℕ) → (bit arcs t && ltb k (getD w t 0)) ≡ false
-  nobody k h t = go (bit arcs t) refl
-    where
-      go : (x : Bool) → bit arcs t ≡ x → (x && ltb k (getD w t 0)) ≡ false
-      go true e = le-ltb k (getD w t 0) (omega (arith, h, b .bound t e))
-      go false e = refl
+-- At most is not above.
+pub at-most : (a b : ℕ) → leb a b ≡ not (ltb b a)
+at-most a b = go (ltb b a) refl
+  where
+    go : (x : Bool) → ltb b a ≡ x → leb a b ≡ not x
+    go true e = lt-leb a b (ltb-true b a e)
+    go false e = le-leb a b (ltb-false b a e)
 
-  pub everybody : arcs < 2 ^ 64 → (t : ℕ) → (bit arcs t && ltb 0 (getD w t 0)) ≡ bit arcs t
-  everybody low t = go (bit arcs t) refl
-    where
-      go : (x : Bool) → bit arcs t ≡ x → (x && ltb 0 (getD w t 0)) ≡ x
-      go true e = lt-ltb 0 (getD w t 0) (omega (arith, b .least t (bit-under arcs t low e) e))
-      go false e = refl
+-- On a level every arc is reached or missed as it is with the tokens at hand, so the same arcs are short.
+pub levelled : {tokens : ℕ} (arcs : ℕ) (w : List ℕ) (x : Level) (k : ℕ) → x .from ≤ k → k < x .upto
+    → ((t : ℕ) → bit (x .short) t ≡ (bit arcs t && ltb tokens (getD w t 0)))
+    → ((t : ℕ) → bit arcs t ≡ true → (getD w t 0 ≤ tokens → getD w t 0 ≤ x .from) × (tokens < getD w t 0 → x .upto ≤ getD w t 0))
+    → (t : ℕ) → bit (x .short) t ≡ (bit arcs t && ltb k (getD w t 0))
+levelled {tokens} arcs w x k low high is ends t = is t ∙ go (bit arcs t) refl
+  where
+    go : (b : Bool) → bit arcs t ≡ b → (b && ltb tokens (getD w t 0)) ≡ (b && ltb k (getD w t 0))
+    go true e = met (ltb tokens (getD w t 0)) refl
+      where
+        met : (b : Bool) → ltb tokens (getD w t 0) ≡ b → b ≡ ltb k (getD w t 0)
+        met true q = sym (lt-ltb k (getD w t 0) (omega (arith, high, ends t e .1 (ltb-true tokens (getD w t 0) q))))
+        met false q = sym (le-ltb k (getD w t 0) (omega (arith, low, ends t e .0 (ltb-false tokens (getD w t 0) q))))
+    go false e = refl
 
-module _ {index : List ℕ} {w s : List (List ℕ)} {plain curbs most : List ℕ} (sorted : Sorted index w s plain curbs most) (p : ℕ) (h : p < 128) where
-  -- So the plain arcs of a place are bounded.
-  pub bounded : Weighty index w → Bounded (getD plain p 0) (getD most p 0) (getD w p [])
-  bounded weighty =
-      record {
-        least = λ t l e. weighty .least p t h l (and-left (bit (getD index (192 + p) 0) t) _ (sym (sorted .plain-is p t h) ∙ e));
-        bound = λ t e. sorted .most-is p t h e;
-      }
+-- A level begins and ends where the place is empty or is not.
+pub emptied : (tokens from upto k : ℕ) → cond (eqb tokens 0) 0 1 ≤ from → upto ≤ cond (eqb tokens 0) 1 4294967295 → from ≤ k → k < upto → eqb k 0 ≡ eqb tokens 0
+emptied tokens from upto k = go (eqb tokens 0)
+  where
+    go : (b : Bool) → cond b 0 1 ≤ from → upto ≤ cond b 1 4294967295 → from ≤ k → k < upto → eqb k 0 ≡ b
+    go true low high l h = eq-eqb k 0 (omega (arith, high, h))
+    go false low high l h = ne-eqb k 0 (λ e. omega (arith, low, l))
 
-  -- Whom the two rows hold back is whom the place holds back.
-  pub row-held : (k r : ℕ) → r < 2 ^ 64
-      → ((t : ℕ) → bit r t ≡ ((bit (getD plain p 0) t && ltb k (cell w p t)) || (bit (getD curbs p 0) t && leb (cell w p t) k)))
+module _ {index : List ℕ} {s : List (List ℕ)} {plain curbs : List ℕ} (sorted : Sorted index s plain curbs) (p : ℕ) (h : p < 128) where
+  -- Whoever is short of the weight of a basic or test arc, or is not of an inhibitor arc's, is whom the place holds back.
+  pub row-held : (w : List (List ℕ)) (k short r : ℕ) → r < 2 ^ 64
+      → ((t : ℕ) → bit short t ≡ (bit (getD index (192 + p) 0) t && ltb k (cell w p t)))
+      → ((t : ℕ) → bit r t ≡ ((bit short t && bit (getD plain p 0) t) || (bit (getD curbs p 0) t && not (bit short t))))
       → r ≡ held-by index w s k p
   unfolding held-by
-  row-held k r low is =
+  row-held w k short r low lacks is =
       same-set r _ low (bits-low _)
       (λ t l.
-      is t ∙ rw (sorted .plain-is p t h, sorted .curbs-is p t h)
-      (go (bit (getD index (192 + p) 0) t) (eqb (cell s p t) 2) (ltb k (cell w p t)) (leb (cell w p t) k)) ∙ sym (bits-bit _ t l))
+      is t ∙ rw (lacks t, sorted .plain-is p t h, sorted .curbs-is p t h, at-most (cell w p t) k)
+      (go (bit (getD index (192 + p) 0) t) (eqb (cell s p t) 2) (ltb k (cell w p t))) ∙ sym (bits-bit _ t l))
     where
-      go : (a b x y : Bool) → ((a && not b && x) || (a && b && y)) ≡ (a && cond b y x)
-      go true true x y = refl
-      go true false x y = or-false x
+      go : (a b x : Bool) → (((a && x) && (a && not b)) || ((a && b) && not (a && x))) ≡ (a && cond b (not x) x)
+      go true true true = refl
+      go true true false = refl
+      go true false true = refl
+      go true false false = refl
+      go false b x = refl
+
+  -- Of those with a basic or test arc, the place holds back whom its tokens do not suffice.
+  pub plain-held : (w : List (List ℕ)) (k t : ℕ) → t < 64
+      → (bit (held-by index w s k p) t && bit (getD plain p 0) t) ≡ (bit (getD plain p 0) t && ltb k (cell w p t))
+  unfolding held-by
+  plain-held w k t l =
+      rw (bits-bit (λ t. bit (getD index (192 + p) 0) t && cond (eqb (cell s p t) 2) (leb (cell w p t) k) (ltb k (cell w p t))) t l, sorted .plain-is p t h)
+      (go (bit (getD index (192 + p) 0) t) (eqb (cell s p t) 2) _ _)
+    where
+      go : (a b x y : Bool) → ((a && cond b x y) && (a && not b)) ≡ ((a && not b) && y)
+      go true true true y = refl
+      go true true false y = refl
+      go true false x true = refl
+      go true false x false = refl
       go false b x y = refl
 
 -- A place without arcs holds nobody back.
 pub none-held : (index : List ℕ) (w s : List (List ℕ)) (k p : ℕ) → getD index (192 + p) 0 ≡ 0 → held-by index w s k p ≡ 0
 unfolding held-by
 none-held index w s k p e = same-set _ 0 (bits-low _) (omega arith) (λ t l. bits-bit _ t l ∙ rw (e, bit-zero t))
+
+-- Neither arc nor action: with any number of tokens the place holds nobody back and shows nothing.
+pub none-spans : (index : List ℕ) (w s : List (List ℕ)) (p from upto : ℕ) → getD index (192 + p) 0 ≡ 0 → getD index (576 + p) 0 ≡ 0 → Spans index w s p 0 0 from upto
+none-spans index w s p from upto no-arc no-action =
+    record { holds = λ k l h. sym (none-held index w s k p no-arc); shows = λ k l h. rw no-action (go (eqb k 0)) }
+  where
+    go : (b : Bool) → _≡_ {A = ℕ} 0 (cond b 0 0)
+    go true = refl
+    go false = refl
+
+-- What the rows of a place say of its tokens now.
+module _ {index : List ℕ} {w s : List (List ℕ)} {m held shown from upto : List ℕ} (levels : Levels index w s m held shown from upto) (p : ℕ) (h : p < 128) where
+  pub held-now : getD held p 0 ≡ held-by index w s (getD m p 0) p
+  held-now = levels .spans p h .holds (getD m p 0) (levels .inside p h .0) (levels .inside p h .1)
+
+  pub shown-now : getD shown p 0 ≡ shown-by index (getD m p 0) p
+  shown-now = levels .spans p h .shows (getD m p 0) (levels .inside p h .0) (levels .inside p h .1)
+
+-- The rows of one place move with its tokens.
+pub moved-on : {index : List ℕ} {w s : List (List ℕ)} {m held shown from upto held′ shown′ from′ upto′ : List ℕ} {p k : ℕ}
+    → Levels index w s m held shown from upto → Moves-to index w s p k held shown from upto held′ shown′ from′ upto′ → p < length m
+    → Levels index w s (set m p k) held′ shown′ from′ upto′
+moved-on {index} {w} {s} {m} {held} {shown} {from} {upto} {held′} {shown′} {from′} {upto′} {p} {k} levels moves l =
+    record { sizes = moves .sizes; spans = λ q h. spans q h (eqb q p) refl; inside = λ q h. inside q h (eqb q p) refl }
+  where
+    spans : (q : ℕ) → q < 128 → (b : Bool) → eqb q p ≡ b → Spans index w s q (getD held′ q 0) (getD shown′ q 0) (getD from′ q 0) (getD upto′ q 0)
+    spans q h true e = rw (eqb-true q p e) (moves .spans)
+    spans q h false e =
+        let o = moves .others q (eqb-false q p e) in
+        rw (o .0, o .1, o .2, o .3) (levels .spans q h)
+
+    inside : (q : ℕ) → q < 128 → (b : Bool) → eqb q p ≡ b → (getD from′ q 0 ≤ getD (set m p k) q 0) × (getD (set m p k) q 0 < getD upto′ q 0)
+    inside q h true e = rw (eqb-true q p e, getD-set-same m p k 0 l) (moves .inside)
+    inside q h false e =
+        let o = moves .others q (eqb-false q p e) in
+        rw (o .2, o .3, getD-set-other m p q k 0 (eqb-false q p e)) (levels .inside q h)
 
 -- One more row is written: the rows before have what f says, and the others what g says, of what the view sees of them.
 pub row-on : {A : Type 0} (view : ℕ → A) (f g : ℕ → A) (rows : List ℕ) (p v : ℕ) → p < length rows

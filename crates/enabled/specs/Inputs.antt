@@ -8,7 +8,11 @@ use lib.ListN.{length, getD}
 use Rattle.meaning.specs.Below.{some}
 use Rattle.meaning.specs.Bytes.{bit}
 use Rattle.net.specs.Rows.{cell}
-use Rattle.enabled.specs.declared.Inputs.{Inputs}
+
+-- For each transition two words of places: places 0 to 63, and places 64 to 127.
+pub record Inputs : Type 0 where
+  pub low : List ℕ
+  pub high : List ℕ
 
 -- Bit p of a transition's two words: row 192 + p of the index has the transition.
 pub record Inputs-of (index : List ℕ) (x : Inputs) : Type 0 where

@@ -1,4 +1,4 @@
-// Enabled by a marking: whom the tokens of each place hold back, kept place by place.
+// Enabled by a marking: whom the tokens of each place hold back and which actions they show, kept place by place.
 ghost use mathlib.Core.Bool.{true, false, cond, not, _&&_, _||_};
 ghost use mathlib.Core.Path.{_≡_};
 ghost use Prim.Native.Nat.{ℕ, _+_, _≤_, _<_};
@@ -8,13 +8,7 @@ ghost use Rattle.meaning.specs.Below.{some};
 ghost use Rattle.meaning.specs.Bytes.{bit};
 ghost use Rattle.table.specs.Index.{Reaches};
 ghost use Rattle.enabled.specs.Inputs.{Inputs-of, Spread, Half};
-ghost use Rattle.enabled.specs.Held.{Bounded, Weighty, Sorted, Holds-back, Empty-from};
-
-// For each transition the places with an input arc to it: places 0 to 63, and places 64 to 127.
-pub struct Inputs {
-    pub low: [u64; 64],
-    pub high: [u64; 64],
-}
+ghost use Rattle.enabled.specs.Held.{Empty-from, Sorted, Narrowed, Level-of, Spans, Four, Moves-to, Levels};
 
 // Adds place p to each transition of a row.
 fn spread(words: &mut [u64; 64], row: u64, p: usize)
@@ -29,31 +23,30 @@ fn spread(words: &mut [u64; 64], row: u64, p: usize)
     }
 }
 
-// For each transition the places of 64 rows of the index, from the first row on, that have it. Of these, the rows from `count` on are empty.
-fn half(index: &[u64; 768], from: usize, count: usize) -> [u64; 64]
-    requires { ⌜ (from ≤ 704) × (count ≤ 64) ⌝ }
+// For each transition the places of 64 rows of the index, from the first row on, that have it. Of these, the rows from `count` on are empty; the
+// words are lent empty.
+fn half(index: &[u64; 768], from: usize, count: usize, words: &mut [u64; 64])
+    requires { ⌜ (from ≤ 704) × (count ≤ 64) × (now words ≡ replicate 64 0) ⌝ }
     requires { ⌜ ((i y : ℕ) → count ≤ i → i < 64 → y < 64 → bit (getD (now index) (from + i) 0) y ≡ false) ⌝ }
-    ensures { λ r. ⌜ Half (now (index .entry)) from r ⌝ }
+    ensures { λ _. ⌜ Half (now (index .entry)) from (now (words .exit)) ⌝ }
 {
-    let mut words = [0u64; 64];
     let mut p = 0;
     while p < count {
-        spread(&mut words, index[from + p], p);
+        spread(words, index[from + p], p);
         p += 1;
     }
-    words
 }
 
-// Reads the input arcs out of the index, whose rows 192 to 319 hold them place by place. The index goes no further than n.
-pub fn inputs_of(index: &[u64; 768], n: usize) -> Inputs
+// For each transition the places with an input arc to it, out of the index, whose rows 192 to 319 hold the arcs place by place: places 0 to 63, and
+// places 64 to 127. The index goes no further than n; the words are lent empty.
+pub fn inputs_of(index: &[u64; 768], n: usize, low: &mut [u64; 64], high: &mut [u64; 64])
     requires { ⌜ Reaches (now index) n ⌝ }
-    ensures { λ x. ⌜ Inputs-of (now (index .entry)) x ⌝ }
+    requires { ⌜ (now low ≡ replicate 64 0) × (now high ≡ replicate 64 0) ⌝ }
+    ensures { λ _. ⌜ Inputs-of (now (index .entry)) (record { low = now (low .exit); high = now (high .exit) }) ⌝ }
 {
-    let low = table::transitions(n);
-    Inputs {
-        low: half(index, 192, low),
-        high: half(index, 256, n - low),
-    }
+    let first = table::transitions(n);
+    half(index, 192, first, low);
+    half(index, 256, n - first, high);
 }
 
 // Does an arc of this weight and sort stop its transition, with so many tokens on its place?
@@ -66,52 +59,6 @@ pub fn stops(tokens: u32, weight: u16, sort: u8) -> bool
     } else {
         tokens < wanted
     }
-}
-
-// Of those with a basic or test arc from a place, whom so many tokens do not suffice. No weight is above `most`: with that many tokens it is
-// nobody, and with none it is all.
-pub fn lacking(tokens: u32, plain: u64, most: u32, w: &[u16; 64]) -> u64
-    requires { ⌜ Bounded plain most (now w) ⌝ }
-    ensures { λ r. ⌜ ((t : ℕ) → bit r t ≡ (bit plain t && ltb tokens (getD (now (w .entry)) t 0))) ⌝ }
-{
-    if most <= tokens {
-        return 0;
-    }
-    if tokens == 0 {
-        return plain;
-    }
-    let mut r = 0u64;
-    let mut left = plain;
-    while left != 0 {
-        let t = sets::lowest(left);
-        let short = stops(tokens, w[t], 0);
-        r = with_if(r, t, short);
-        left = sets::rest(left);
-    }
-    r
-}
-
-// Of those with an inhibitor arc from a place, whom so many tokens stop.
-fn curbed(tokens: u32, curbs: u64, w: &[u16; 64]) -> u64
-    ensures { λ r. ⌜ ((t : ℕ) → bit r t ≡ (bit curbs t && leb (getD (now (w .entry)) t 0) tokens)) ⌝ }
-{
-    let mut r = 0u64;
-    let mut left = curbs;
-    while left != 0 {
-        let t = sets::lowest(left);
-        let found = stops(tokens, w[t], 2);
-        r = with_if(r, t, found);
-        left = sets::rest(left);
-    }
-    r
-}
-
-// Whom so many tokens on a place hold back: those that lack tokens, and those that an inhibitor arc stops.
-pub fn held_at(tokens: u32, plain: u64, curbs: u64, most: u32, w: &[u16; 64]) -> u64
-    requires { ⌜ Bounded plain most (now w) ⌝ }
-    ensures { λ r. ⌜ ((t : ℕ) → bit r t ≡ ((bit plain t && ltb tokens (getD (now (w .entry)) t 0)) || (bit curbs t && leb (getD (now (w .entry)) t 0) tokens))) ⌝ }
-{
-    sets::union(lacking(tokens, plain, most, w), curbed(tokens, curbs, w))
 }
 
 // Of those with an arc from a place, whose arc is an inhibitor arc.
@@ -128,76 +75,207 @@ fn curbs_of(arcs: u64, s: &[u8; 64]) -> u64
     r
 }
 
-// The higher of a number and a weight.
-fn higher(x: u32, weight: u16) -> u32
-    ensures { λ r. ⌜ (x ≤ r) × (weight ≤ r) ⌝ }
-{
-    let other = weight as u32;
-    if x < other { other } else { x }
-}
-
-// The highest of their weights, 0 if there are none.
-fn most_of(arcs: u64, w: &[u16; 64]) -> u32
-    ensures { λ r. ⌜ ((t : ℕ) → bit arcs t ≡ true → getD (now (w .entry)) t 0 ≤ r) ⌝ }
-{
-    let mut r: u32 = 0;
-    let mut left = arcs;
-    while left != 0 {
-        let t = sets::lowest(left);
-        r = higher(r, w[t]);
-        left = sets::rest(left);
-    }
-    r
-}
-
-// The arcs from each place by what they ask: who has a basic or test arc from it, who has an inhibitor arc, and the highest weight of the
-// former. The rows are lent empty; from row n on there is no arc.
+// The arcs from each place by what they ask: who has a basic or test arc from it, and who has an inhibitor arc. The rows are lent empty; from
+// row n on there is no arc.
 pub fn sort_arcs(
     plain: &mut [u64; 128],
     curbs: &mut [u64; 128],
-    most: &mut [u32; 128],
     index: &[u64; 768],
-    w: &[[u16; 64]; 128],
     s: &[[u8; 64]; 128],
     n: usize,
 )
-    requires { ⌜ (now plain ≡ replicate 128 0) × (now curbs ≡ replicate 128 0) × (length (now most) ≡ 128) ⌝ }
+    requires { ⌜ (now plain ≡ replicate 128 0) × (now curbs ≡ replicate 128 0) ⌝ }
     requires { ⌜ Empty-from (now index) n ⌝ }
-    ensures { λ _. ⌜ Sorted (now (index .entry)) (now (w .entry)) (now (s .entry)) (now (plain .exit)) (now (curbs .exit)) (now (most .exit)) ⌝ }
+    ensures { λ _. ⌜ Sorted (now (index .entry)) (now (s .entry)) (now (plain .exit)) (now (curbs .exit)) ⌝ }
 {
     let mut p = 0;
     while p < n {
         let arcs = index[192 + p];
         let stoppers = curbs_of(arcs, &s[p]);
-        let others = sets::less(arcs, stoppers);
-        plain[p] = others;
+        plain[p] = sets::less(arcs, stoppers);
         curbs[p] = stoppers;
-        most[p] = most_of(others, &w[p]);
         p += 1;
     }
 }
 
-// Whom the tokens of each place hold back. The rows are lent empty.
-pub fn hold(
+// A level of a place's tokens: who has an arc from the place whose weight is not reached. That is the same with any number of tokens from `from`
+// on and below `upto`.
+pub struct Level {
+    pub short: u64,
+    pub from: u32,
+    pub upto: u32,
+}
+
+// Where a level begins before any arc is asked: a place without a token is a level of its own.
+fn floor(tokens: u32) -> u32
+    ensures { λ r. ⌜ r ≡ cond (eqb tokens 0) 0 1 ⌝ }
+{
+    if tokens == 0 { 0 } else { 1 }
+}
+
+// Where it ends.
+fn roof(tokens: u32) -> u32
+    ensures { λ r. ⌜ r ≡ cond (eqb tokens 0) 1 4294967295 ⌝ }
+{
+    if tokens == 0 { 1 } else { 4294967295 }
+}
+
+// The higher and the lower of two numbers of tokens.
+fn higher(x: u32, y: u32) -> u32
+    ensures { λ r. ⌜ (x ≤ r) × (y ≤ r) × ((k : ℕ) → x ≤ k → y ≤ k → r ≤ k) ⌝ }
+{
+    if x < y { y } else { x }
+}
+
+fn lower(x: u32, y: u32) -> u32
+    ensures { λ r. ⌜ (r ≤ x) × (r ≤ y) × ((k : ℕ) → k < x → k < y → k < r) ⌝ }
+{
+    if y < x { y } else { x }
+}
+
+// The level with one more arc, to transition t: it begins or ends at the arc's weight, if that is nearer.
+fn narrowed(x: Level, tokens: u32, t: usize, weight: u16) -> Level
+    ensures { λ y. ⌜ Narrowed tokens t weight x y ⌝ }
+{
+    let wanted = weight as u32;
+    let short = x.short;
+    let from = x.from;
+    let upto = x.upto;
+    if tokens < wanted {
+        Level {
+            short: sets::with(short, t),
+            from,
+            upto: lower(upto, wanted),
+        }
+    } else {
+        Level {
+            short,
+            from: higher(from, wanted),
+            upto,
+        }
+    }
+}
+
+// The level of so many tokens at a place with these arcs.
+pub fn level_of(tokens: u32, arcs: u64, w: &[u16; 64]) -> Level
+    requires { ⌜ tokens < 4294967295 ⌝ }
+    ensures { λ x. ⌜ Level-of tokens arcs (now (w .entry)) x ⌝ }
+{
+    let mut x = Level {
+        short: 0,
+        from: floor(tokens),
+        upto: roof(tokens),
+    };
+    let mut left = arcs;
+    while left != 0 {
+        let t = sets::lowest(left);
+        x = narrowed(x, tokens, t, w[t]);
+        left = sets::rest(left);
+    }
+    x
+}
+
+// The actions of a place that so many tokens show: all of them, or none without a token.
+fn shows(tokens: u32, row: u64) -> u64
+    ensures { λ r. ⌜ r ≡ cond (eqb tokens 0) 0 row ⌝ }
+{
+    if tokens == 0 { 0 } else { row }
+}
+
+// Is the number outside of a level?
+fn outside(tokens: u32, from: u32, upto: u32) -> bool
+    ensures { λ r. ⌜ r ≡ (ltb tokens from || leb upto tokens) ⌝ }
+{
+    if tokens < from { true } else { upto <= tokens }
+}
+
+// Row p of the four for so many tokens on place p: whom they hold back, the actions they show, and their level.
+fn relevel(
+    p: usize,
+    tokens: u32,
+    index: &[u64; 768],
+    plain: &[u64; 128],
+    curbs: &[u64; 128],
+    w: &[[u16; 64]; 128],
+    s: &[[u8; 64]; 128],
     held: &mut [u64; 128],
+    shown: &mut [u64; 128],
+    from: &mut [u32; 128],
+    upto: &mut [u32; 128],
+)
+    requires { ⌜ (p < 128) × (tokens < 4294967295) ⌝ }
+    requires { ⌜ Sorted (now index) (now s) (now plain) (now curbs) ⌝ }
+    requires { ⌜ Four (now held) (now shown) (now from) (now upto) ⌝ }
+    ensures { λ _. ⌜ Moves-to (now (index .entry)) (now (w .entry)) (now (s .entry)) p tokens (now (held .entry)) (now (shown .entry)) (now (from .entry)) (now (upto .entry)) (now (held .exit)) (now (shown .exit)) (now (from .exit)) (now (upto .exit)) ⌝ }
+{
+    let x = level_of(tokens, index[192 + p], &w[p]);
+    let short = x.short;
+    held[p] = sets::union(short & plain[p], sets::less(curbs[p], short));
+    shown[p] = shows(tokens, index[576 + p]);
+    from[p] = x.from;
+    upto[p] = x.upto;
+}
+
+// The same, where nothing is done as long as the tokens stay on their level.
+pub fn shift(
+    p: usize,
+    tokens: u32,
+    index: &[u64; 768],
+    plain: &[u64; 128],
+    curbs: &[u64; 128],
+    w: &[[u16; 64]; 128],
+    s: &[[u8; 64]; 128],
+    held: &mut [u64; 128],
+    shown: &mut [u64; 128],
+    from: &mut [u32; 128],
+    upto: &mut [u32; 128],
+)
+    requires { ⌜ (p < 128) × (tokens < 4294967295) ⌝ }
+    requires { ⌜ Sorted (now index) (now s) (now plain) (now curbs) ⌝ }
+    requires { ⌜ Four (now held) (now shown) (now from) (now upto) ⌝ }
+    requires { ⌜ Spans (now index) (now w) (now s) p (getD (now held) p 0) (getD (now shown) p 0) (getD (now from) p 0) (getD (now upto) p 0) ⌝ }
+    ensures { λ _. ⌜ Moves-to (now (index .entry)) (now (w .entry)) (now (s .entry)) p tokens (now (held .entry)) (now (shown .entry)) (now (from .entry)) (now (upto .entry)) (now (held .exit)) (now (shown .exit)) (now (from .exit)) (now (upto .exit)) ⌝ }
+{
+    if outside(tokens, from[p], upto[p]) {
+        relevel(
+            p,
+            tokens,
+            index,
+            plain,
+            curbs,
+            w,
+            s,
+            held,
+            shown,
+            from,
+            upto,
+        );
+    }
+}
+
+// The four rows of each place for its tokens. They are lent empty, each level without an end; from n on there is neither an arc nor an action.
+pub fn hold(
     m: &[u32; 128],
     index: &[u64; 768],
     plain: &[u64; 128],
     curbs: &[u64; 128],
-    most: &[u32; 128],
     w: &[[u16; 64]; 128],
     s: &[[u8; 64]; 128],
     n: usize,
+    held: &mut [u64; 128],
+    shown: &mut [u64; 128],
+    from: &mut [u32; 128],
+    upto: &mut [u32; 128],
 )
-    requires { ⌜ now held ≡ replicate 128 0 ⌝ }
-    requires { ⌜ Sorted (now index) (now w) (now s) (now plain) (now curbs) (now most) ⌝ }
-    requires { ⌜ Weighty (now index) (now w) ⌝ }
+    requires { ⌜ (now held ≡ replicate 128 0) × (now shown ≡ replicate 128 0) × (now from ≡ replicate 128 0) × (now upto ≡ replicate 128 4294967295) ⌝ }
+    requires { ⌜ Sorted (now index) (now s) (now plain) (now curbs) ⌝ }
     requires { ⌜ Empty-from (now index) n ⌝ }
-    ensures { λ _. ⌜ Holds-back (now (index .entry)) (now (w .entry)) (now (s .entry)) (now (m .entry)) (now (held .exit)) ⌝ }
+    requires { ⌜ ((p : ℕ) → p < 128 → getD (now m) p 0 < 4294967295) ⌝ }
+    ensures { λ _. ⌜ Levels (now (index .entry)) (now (w .entry)) (now (s .entry)) (now (m .entry)) (now (held .exit)) (now (shown .exit)) (now (from .exit)) (now (upto .exit)) ⌝ }
 {
     let mut p = 0;
     while p < n {
-        held[p] = held_at(m[p], plain[p], curbs[p], most[p], &w[p]);
+        relevel(p, m[p], index, plain, curbs, w, s, held, shown, from, upto);
         p += 1;
     }
 }
@@ -216,13 +294,15 @@ pub fn all_of(rows: &[u64; 128], n: usize) -> u64
     r
 }
 
-// One more than the highest place with an input arc, 0 if there is none.
-pub fn bound(index: &[u64; 768]) -> usize
+// One more than the highest place with an input arc or an action, 0 if there is none. The index goes no further than `reach`.
+pub fn bound(index: &[u64], reach: usize) -> usize
+    requires { ⌜ 768 ≤ length (now index) ⌝ }
+    requires { ⌜ Reaches (now index) reach ⌝ }
     ensures { λ n. ⌜ Empty-from (now (index .entry)) n ⌝ }
 {
-    let mut n = 128;
+    let mut n = reach;
     while 0 < n {
-        if index[191 + n] != 0 {
+        if sets::union(index[191 + n], index[575 + n]) != 0 {
             return n;
         }
         n -= 1;

@@ -2,26 +2,24 @@
 -- the other.
 use mathlib.Core.Bool.{Bool, true, false, not, _&&_}
 use mathlib.Core.List.{List}
-use mathlib.Core.Logic.{_≢_, inl, inr}
+use mathlib.Core.Logic.{_≢_}
 use mathlib.Core.Path.{_≡_, sym, ap, _∙_}
-use Prim.Native.Nat.{ℕ, _≤_, _<_}
+use Prim.Native.Nat.{ℕ, _%_, _≤_, _<_}
 use native.Mathlib.Omega.{arith}
-use lib.Dec.{ltb}
-use lib.ListN.{getD}
-use borrow.Author.Tests.{lt-ltb, le-ltb, not-true, eqb-false}
+use lib.Dec.{eqb, ltb}
+use lib.ListN.{length, getD}
+use borrow.Author.Tests.{lt-ltb, le-ltb, ltb-false, not-true, eqb-false}
 use Rattle.meaning.specs.Below.{first}
 use Rattle.meaning.specs.Bytes.{bit}
 use Rattle.meaning.specs.Table.{table, transition}
 use Rattle.meaning.specs.Answer.{refused}
 use Rattle.meaning.specs.Priority.{above}
-use Rattle.meaning.specs.Says.{Shown, Same}
-use Rattle.meaning.specs.Defined.{bad-length, fault, faulty, same, twice, unknown, empty, isolated, circle, conflict, settled, unsettled, clashes, check}
-use Rattle.meaning.proofs.Bool.{and-left, and-right}
-use Rattle.meaning.proofs.Below.{first-le, first-passes, first-before, first-same, first-none, none-elim}
-use Rattle.meaning.proofs.Reflect.{refutes}
-use Rattle.meaning.proofs.Walk.{compared}
+use Rattle.meaning.specs.Says.{Shown}
+use Rattle.meaning.specs.Defined.{bad-length, fault, faulty, twice, unknown, empty, isolated, circle, conflict, settled, unsettled, clashes, check}
+use Rattle.meaning.proofs.Bool.{and-left, and-right, or-false-right}
+use Rattle.meaning.proofs.Below.{first-le, first-passes, first-before, first-same, first-none}
 use Rattle.meaning.proofs.Shows.{Shows, nonzero}
-use Rattle.meaning.proofs.Same.{of-kind, shown-arc, shown-priority, same-decides}
+use Rattle.meaning.proofs.Same.{of-kind, shown-arc, shown-priority}
 use Rattle.meaning.proofs.Faults.{faultless}
 use Rattle.meaning.proofs.Rows.{transition-decides, conflict-decides}
 use Rattle.meaning.proofs.Tables.{arc-transition}
@@ -30,8 +28,10 @@ use Rattle.table.proofs.Reach.{Below, below-of, reaches-of}
 use Rattle.table.specs.Index.{Scanned, Reaches, names-unknown-at, none-of, lone}
 use Rattle.table.proofs.Carry.{Clean, clean-of, unknown-same, none-same, lone-same, written-bit}
 use Rattle.net.specs.Rows.{Conflicts}
-use Rattle.net.specs.Pass.{Filled}
-use Rattle.net.proofs.Carry.{conflict-bit, complementary-bits, inhibits-same}
+use Rattle.net.specs.Pass.{Filed}
+use Rattle.net.specs.Inputs.{Chainable}
+use Rattle.net.proofs.Filing.{gathered}
+use Rattle.net.proofs.Carry.{conflict-bit, complementary-bits}
 use Rattle.priority.specs.Closed.{Closed}
 use Rattle.priority.proofs.Carry.{above-bit, circle-same}
 use Rattle.pairs.specs.Settled.{loose}
@@ -40,17 +40,19 @@ use Rattle.engine.specs.declared.Judged.{Judged}
 use Rattle.engine.specs.Said.{Judges}
 use Rattle.engine.proofs.Stages.{answer-2, answer-5, answer-6, answer-7, answer-8, answer-9, answer-0}
 
--- What a shown arc weighs, and the ranges of a shown condition.
-shown-weight : {o t s f x : ℕ} → Shown 3 o t s f x → 1 ≤ f
-shown-weight (Shown.arc a b c d e) = d
-
+-- The ranges of a shown condition.
 shown-wanted : {o t s f x : ℕ} → Shown 4 o t s f x → (o ≤ 63) × (t ≤ 63) × (s ≤ 1)
 shown-wanted (Shown.condition a b c) = (a, b, c)
 
+-- At most 1,024 records.
+few : (bs : List ℕ) → bad-length bs ≡ false → table bs .records ≤ 1024
+unfolding table bad-length
+few bs e = omega (arith, ltb-false 8192 (length bs) (or-false-right (not (eqb (length bs % 8) 0)) (ltb 8192 (length bs)) e))
+
 -- A refusal says nothing of the rows.
-pub refusal : (bs : List ℕ) (j : Judged) (index higher : List ℕ) (w s : List (List ℕ)) (takers truths falses : List ℕ) → 0 < j .number
-    → refused (j .number) (j .at) ≡ check bs → Judges bs j index higher w s takers truths falses
-refusal bs j index higher w s takers truths falses l e =
+pub refusal : (bs : List ℕ) (j : Judged) (index higher takers truths falses sorts a b : List ℕ) → 0 < j .number
+    → refused (j .number) (j .at) ≡ check bs → Judges bs j index higher takers truths falses sorts a b
+refusal bs j index higher takers truths falses sorts a b l e =
     record {
       answer = e;
       indexed = λ z. absurd (omega arith);
@@ -58,7 +60,7 @@ refusal bs j index higher w s takers truths falses l e =
       below = λ z. absurd (omega arith);
       higher-is = λ z. absurd (omega arith);
       bare = λ z. absurd (omega arith);
-      filled = λ z. absurd (omega arith);
+      filed = λ z. absurd (omega arith);
     }
 
 -- A search that stays below its end and one that reaches it.
@@ -94,6 +96,20 @@ module _ (bs : List ℕ) (right : bad-length bs ≡ false) (s : Pass) (index : L
     -- What a record without a fault shows.
     sound : (r : ℕ) → r < table bs .records → Shows (table bs) r × (twice (table bs) r ≡ false)
     sound r h = faultless (table bs) r (first-before (table bs .records) (faulty (table bs)) r (omega (arith, no-fault)))
+
+    -- All records are filed.
+    pub all-filed : {takers truths falses sorts a b : List ℕ} → Filed (table bs) (s .at) takers truths falses sorts a b
+        → Filed (table bs) (table bs .records) takers truths falses sorts a b
+    all-filed f = rw (scanned .at ∙ no-fault) at f
+
+    -- The ranges of an arc, and so that every input arc has a chain.
+    arcs : (r : ℕ) → r < table bs .records → table bs .kind r ≡ 3 → (table bs .one r < 128) × (table bs .two r < 64)
+    arcs r h e =
+        let range = shown-arc (of-kind (table bs) r 3 (sound r h .0) e) in
+        (omega (arith, range .0), omega (arith, range .1))
+
+    pub chainable : Chainable (table bs)
+    chainable = record { few = few bs right; low = λ r h e. arcs r h e .1 }
 
     unknowns : first (table bs .records) (names-unknown-at (table bs) index) ≡ first (table bs .records) (unknown (table bs))
     unknowns = first-same (table bs .records) _ _ (unknown-same clean)
@@ -142,45 +158,18 @@ module _ (bs : List ℕ) (right : bad-length bs ≡ false) (s : Pass) (index : L
               let same = e ∙ circles in
               ap (refused 8) same ∙ sym (answer-8 bs right no-fault all-known not-empty none-lone (omega arith))
 
-          module _ (o : ℕ) (eo : o ≡ first 64 (λ t. bit (getD higher t 0) t)) (po : 64 ≤ o) (w so : List (List ℕ)) (takers truths falses : List ℕ)
-              (filled : Filled (table bs) w so takers truths falses) (conflicts : List ℕ) (conflicting : Conflicts takers conflicts) (q : ℕ)
-              (least : q ≡ first 4096 (loose conflicts higher truths falses w so)) where
+          module _ (o : ℕ) (eo : o ≡ first 64 (λ t. bit (getD higher t 0) t)) (po : 64 ≤ o) (takers truths falses sorts a b : List ℕ)
+              (filed : Filed (table bs) (table bs .records) takers truths falses sorts a b) (conflicts : List ℕ) (conflicting : Conflicts takers conflicts) (q : ℕ)
+              (least : q ≡ first 4096 (loose (table bs) conflicts higher truths falses)) where
             no-circle : first 64 (circle (table bs)) ≡ 64
             no-circle = reached 64 (circle (table bs)) (eo ∙ circles) po
 
-            -- Two input arcs between one place and one transition are one record.
-            single : (r p : ℕ) → r < table bs .records → p < table bs .records → table bs .kind r ≡ 3 → table bs .kind p ≡ 3
-                → table bs .sort r < 3 → table bs .sort p < 3 → table bs .one r ≡ table bs .one p → table bs .two r ≡ table bs .two p → r ≡ p
-            unfolding twice
-            single r p hr hp kr kp sr sp e f =
-                elim (compared r p) [
-                  | inl m ↦ absurd (again r p m hr hp kr kp sr sp e f)
-                  | inr (inl m) ↦ m
-                  | inr (inr m) ↦ absurd (again p r m hp hr kp kr sp sr (sym e) (sym f))
-                ]
-              where
-                again : (r p : ℕ) → r < p → r < table bs .records → p < table bs .records → table bs .kind r ≡ 3 → table bs .kind p ≡ 3
-                    → table bs .sort r < 3 → table bs .sort p < 3 → table bs .one r ≡ table bs .one p → table bs .two r ≡ table bs .two p → ⊥
-                again r p m hr hp kr kp sr sp e f =
-                    refutes (same-decides (table bs) r p (sound r hr .0) (sound p hp .0))
-                    (none-elim p (same (table bs) p) (sound p hp .1) r m)
-                    (Same.input-arc kr kp (omega arith) (omega arith) e f)
-
-            arcs : (r : ℕ) → r < table bs .records → table bs .kind r ≡ 3
-                → (table bs .one r < 128) × (table bs .two r < 64) × (1 ≤ table bs .four r) × (table bs .sort r ≤ 3)
-            arcs r h e =
-                let shown = of-kind (table bs) r 3 (sound r h .0) e in
-                let range = shown-arc shown in
-                (omega (arith, range .0), omega (arith, range .1), shown-weight shown, range .2)
-
-            say : Say (table bs) conflicts higher truths falses w so
+            say : Say (table bs) conflicts higher truths falses
             say =
                 record {
-                  conflicting = conflict-bit (table bs) takers conflicts (filled .takers-hold) conflicting
-                      (λ r h e. (arcs r h e .0, arcs r h e .1));
+                  conflicting = conflict-bit (table bs) takers conflicts (gathered (table bs) 3 0 (filed .taking)) conflicting arcs;
                   higher = above-is;
-                  contrary = complementary-bits (table bs) truths falses (filled .truths-hold) (filled .falses-hold) conditions;
-                  stopping = inhibits-same (table bs) w so (filled .weights) (filled .sorts) arcs single;
+                  contrary = complementary-bits (table bs) truths falses (gathered (table bs) 4 0 (filed .wanting)) (gathered (table bs) 4 1 (filed .shunning)) conditions;
                 }
               where
                 conditions : (r : ℕ) → r < table bs .records → table bs .kind r ≡ 4
@@ -200,11 +189,11 @@ module _ (bs : List ℕ) (right : bad-length bs ≡ false) (s : Pass) (index : L
 
             pub verdict-9 : q < 4096 → refused 9 q ≡ check bs
             verdict-9 h =
-                let found = least-pair (table bs) conflicts higher truths falses w so say declared (rw (sym least) h) in
+                let found = least-pair (table bs) conflicts higher truths falses say declared (rw (sym least) h) in
                 ap (refused 9) (least ∙ found .1) ∙ sym (answer-9 bs right no-fault all-known not-empty none-lone no-circle (found .0))
 
             pub verdict-0 : 4096 ≤ q → refused 0 0 ≡ check bs
             verdict-0 h =
-                let none = no-pair (table bs) conflicts higher truths falses w so say
-                (reached 4096 (loose conflicts higher truths falses w so) least h) in
+                let none = no-pair (table bs) conflicts higher truths falses say
+                (reached 4096 (loose (table bs) conflicts higher truths falses) least h) in
                 sym (answer-0 bs right no-fault all-known not-empty none-lone no-circle (first-none 64 (clashes (table bs)) none))

@@ -14,7 +14,7 @@ use Rattle.meaning.specs.Calls.{word-checks}
 use Rattle.records.specs.declared.Rec.{Rec}
 use Rattle.table.specs.Index.{Indexed, Reaches, transitions-below}
 use Rattle.priority.specs.Closed.{Bare}
-use Rattle.net.specs.Pass.{Filled}
+use Rattle.net.specs.Pass.{Filed}
 use Rattle.timing.specs.declared.Intervals.{Intervals}
 use Rattle.image.specs.Fit.{wrong-by}
 use Rattle.engine.specs.declared.Answer.{Answer}
@@ -25,15 +25,15 @@ abbrev pub said : Answer → meaning.Answer
 said a = record { number = a .number; at = a .at; cycles = a .cycles }
 
 -- What the stages of a table come to: its answer; and, where it is accepted, the index holds all its records and goes no further than the reach,
--- the rows are the closed priority, and those of the net are filled.
-pub record Judges (bs : List ℕ) (j : Judged) (index higher : List ℕ) (w s : List (List ℕ)) (takers truths falses : List ℕ) : Type 0 where
+-- the rows are the closed priority, and all records are filed in those of the net.
+pub record Judges (bs : List ℕ) (j : Judged) (index higher takers truths falses sorts a b : List ℕ) : Type 0 where
   pub answer : meaning.refused (j .number) (j .at) ≡ check bs
   pub indexed : j .number ≡ 0 → Indexed (table bs) (table bs .records) index
   pub reaches : j .number ≡ 0 → Reaches index (j .reach)
   pub below : j .number ≡ 0 → (r : ℕ) → r < table bs .records → (table bs .one r < j .reach) × (table bs .two r < j .reach)
   pub higher-is : j .number ≡ 0 → (u t : ℕ) → u < 64 → t < 64 → bit (getD higher u 0) t ≡ above (table bs) u t
   pub bare : j .number ≡ 0 → Bare (transitions-below (j .reach)) higher
-  pub filled : j .number ≡ 0 → Filled (table bs) w s takers truths falses
+  pub filed : j .number ≡ 0 → Filed (table bs) (table bs .records) takers truths falses sorts a b
 
 -- A record that declares a place stores its first tokens in the place's two bytes; any other stores nothing.
 unfoldable pub put-of : List ℕ → Rec → List ℕ

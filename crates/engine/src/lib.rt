@@ -1,4 +1,5 @@
 // The engine's calls over lent bytes: check, start, run, lookup. Each call has its answer table in docs/ENGINE.md.
+use course::Ended;
 use records::Rec;
 use timing::Intervals;
 ghost use mathlib.Core.Bool.{false};
@@ -11,6 +12,7 @@ ghost use Rattle.meaning.specs.Defined.{bad-length, check};
 ghost use Rattle.meaning.specs.Image.{image-bytes, fresh};
 ghost use Rattle.meaning.specs.Promise.{Checked, Started, Ran, Looked-up};
 ghost use Rattle.net.specs.Pass.{Blank};
+ghost use Rattle.course.specs.Course.{Read, Ready, Ends};
 ghost use Rattle.engine.specs.Said.{said, Judges, put-of, lent-checks};
 
 // An answer: its number (0 accepted), the page's where, the cycles done.
@@ -39,20 +41,21 @@ fn judge(
     t: &[u8],
     index: &mut [u64; 768],
     above: &mut [u64; 64],
-    w: &mut [[u16; 64]; 128],
-    s: &mut [[u8; 64]; 128],
     takers: &mut [u64; 128],
     truths: &mut [u64; 128],
     falses: &mut [u64; 128],
+    sorts: &mut [u8; 64],
+    a: &mut [u16; 64],
+    b: &mut [u16; 64],
 ) -> Judged
     requires { ⌜ bad-length (now t) ≡ false ⌝ }
-    requires { ⌜ Blank (now w) (now s) (now takers) (now truths) (now falses) ⌝ }
+    requires { ⌜ Blank (now takers) (now truths) (now falses) (now sorts) (now a) (now b) ⌝ }
     requires { ⌜ now index ≡ replicate 768 0 ⌝ }
     requires { ⌜ now above ≡ replicate 64 0 ⌝ }
-    ensures { λ j. ⌜ Judges (now (t .entry)) j (now (index .exit)) (now (above .exit)) (now (w .exit)) (now (s .exit)) (now (takers .exit)) (now (truths .exit)) (now (falses .exit)) ⌝ }
+    ensures { λ j. ⌜ Judges (now (t .entry)) j (now (index .exit)) (now (above .exit)) (now (takers .exit)) (now (truths .exit)) (now (falses .exit)) (now (sorts .exit)) (now (a .exit)) (now (b .exit)) ⌝ }
 {
     let n = t.len() / 8;
-    let pass = table::scan(t, index);
+    let pass = net::scan(t, index, takers, truths, falses, sorts, a, b);
     let at = pass.at;
     let reach = pass.reach;
     if at < n {
@@ -62,7 +65,7 @@ fn judge(
             reach,
         };
     }
-    let unknown = net::fill(t, index, w, s, takers, truths, falses);
+    let unknown = table::first_unknown(t, index, reach);
     if unknown < n {
         return Judged {
             number: 5,
@@ -98,7 +101,7 @@ fn judge(
     }
     let mut conflicts = [0u64; 64];
     net::conflicts(takers, &mut conflicts, reach);
-    let pair = pairs::clash(&conflicts, above, truths, falses, w, s, most);
+    let pair = pairs::clash(&mut conflicts, above, truths, falses, t, most);
     if pair < 4096 {
         return Judged {
             number: 9,
@@ -131,22 +134,24 @@ pub fn check(t: &[u8]) -> Answer
             cycles: 0,
         };
     }
-    let mut w = [[0u16; 64]; 128];
-    let mut s = [[0u8; 64]; 128];
     let mut takers = [0u64; 128];
     let mut truths = [0u64; 128];
     let mut falses = [0u64; 128];
+    let mut sorts = [0u8; 64];
+    let mut a = [0u16; 64];
+    let mut b = [0u16; 64];
     let mut index = [0u64; 768];
     let mut above = [0u64; 64];
     let j = judge(
         t,
         &mut index,
         &mut above,
-        &mut w,
-        &mut s,
         &mut takers,
         &mut truths,
         &mut falses,
+        &mut sorts,
+        &mut a,
+        &mut b,
     );
     Answer {
         number: j.number,
@@ -259,6 +264,43 @@ fn judge_lent(
     Finding { number: 0, at: 0 }
 }
 
+// The cycles of a call whose checks are passed, with arrays for its input arcs.
+fn play(
+    t: &[u8],
+    image: &mut [u8],
+    words: &[u8],
+    report: &mut [u8],
+    x: Intervals,
+    index: &[u64; 768],
+    above: &[u64; 64],
+    takers: &[u64; 128],
+    truths: &[u64; 128],
+    falses: &[u64; 128],
+    reach: usize,
+) -> Ended
+    requires { ⌜ Read (now t) x (now index) (now above) (now takers) (now truths) (now falses) reach ⌝ }
+    requires { ⌜ Ready (now t) (now image) (now words) (now report) ⌝ }
+    ensures { λ e. ⌜ Ends (now (t .entry)) (now (image .entry)) (now (words .entry)) (now (report .entry)) e (now (image .exit)) (now (report .exit)) ⌝ }
+{
+    let mut w = [[0u16; 64]; 128];
+    let mut s = [[0u8; 64]; 128];
+    course::course(
+        t,
+        image,
+        words,
+        report,
+        x,
+        index,
+        above,
+        &mut w,
+        &mut s,
+        takers,
+        truths,
+        falses,
+        reach,
+    )
+}
+
 // run: answers 1 to 9, then 10, 11 and 12, then one cycle a word, and 13 at a cycle. A refusal before any cycle writes nothing; 13 keeps the
 // finished cycles and nothing of the refused one.
 pub fn run(t: &[u8], image: &mut [u8], words: &[u8], report: &mut [u8]) -> Answer
@@ -278,22 +320,24 @@ pub fn run(t: &[u8], image: &mut [u8], words: &[u8], report: &mut [u8]) -> Answe
             cycles: 0,
         };
     }
-    let mut w = [[0u16; 64]; 128];
-    let mut s = [[0u8; 64]; 128];
     let mut takers = [0u64; 128];
     let mut truths = [0u64; 128];
     let mut falses = [0u64; 128];
+    let mut sorts = [0u8; 64];
+    let mut a = [0u16; 64];
+    let mut b = [0u16; 64];
     let mut index = [0u64; 768];
     let mut above = [0u64; 64];
     let judged = judge(
         t,
         &mut index,
         &mut above,
-        &mut w,
-        &mut s,
         &mut takers,
         &mut truths,
         &mut falses,
+        &mut sorts,
+        &mut a,
+        &mut b,
     );
     if judged.number != 0 {
         return Answer {
@@ -302,7 +346,7 @@ pub fn run(t: &[u8], image: &mut [u8], words: &[u8], report: &mut [u8]) -> Answe
             cycles: 0,
         };
     }
-    let x = timing::times(t);
+    let x = Intervals { sorts, a, b };
     let v = judge_lent(image, words, report, &index, x);
     if v.number != 0 {
         return Answer {
@@ -311,7 +355,14 @@ pub fn run(t: &[u8], image: &mut [u8], words: &[u8], report: &mut [u8]) -> Answe
             cycles: 0,
         };
     }
-    let e = course::course(
+    if words.len() < 8 {
+        return Answer {
+            number: 0,
+            at: 0,
+            cycles: 0,
+        };
+    }
+    let e = play(
         t,
         image,
         words,
@@ -319,8 +370,6 @@ pub fn run(t: &[u8], image: &mut [u8], words: &[u8], report: &mut [u8]) -> Answe
         x,
         &index,
         &above,
-        &w,
-        &s,
         &takers,
         &truths,
         &falses,

@@ -1,12 +1,12 @@
 -- From the rows to the meaning: what the members above a transition take by the rows is what they withdraw by the table, so a set that fires by the
--- rows meets definition 6, and only the fired set does.
-use mathlib.Core.Bool.{Bool, true, false, cond, not, _&&_}
+-- rows meets definition 6, and only the fired set does. Of those above a transition its rivals suffice.
+use mathlib.Core.Bool.{Bool, true, false, cond, not, _&&_, and-true, and-false}
 use mathlib.Core.List.{List, [], _∷_}
 use mathlib.Core.Path.{_≡_, refl, sym, ap, _∙_}
 use Prim.Native.Nat.{ℕ, zero, suc, _-_, _^_, _<_}
-use native.Mathlib.Nat.{not-suc-le-zero, le-of-suc-le-suc}
+use native.Mathlib.Nat.{not-suc-le-zero, le-of-suc-le-suc, lt-of-le-of-lt}
 use native.Mathlib.Omega.{arith}
-use lib.Bits.{bitAnd}
+use lib.Bits.{bitAnd, and-le-l}
 use lib.Dec.{eqb, leb, ltb}
 use lib.ListN.{getD}
 use borrow.Author.Tests.{eqb-true, ltb-true, ltb-false, not-true}
@@ -17,14 +17,74 @@ use Rattle.meaning.specs.Priority.{above}
 use Rattle.meaning.specs.Image.{State}
 use Rattle.meaning.specs.Cycle.{enabled, firable, withdrawn, residual, rule, fired, as-wanted, in-time}
 use Rattle.meaning.proofs.Bool.{and-left, and-right}
-use Rattle.meaning.proofs.Below.{some-same, none-elim, sum-zero}
+use Rattle.meaning.proofs.Below.{some-same, some-intro, none-elim, sum-same, sum-zero}
 use Rattle.meaning.proofs.Well.{Well}
 use Rattle.meaning.proofs.Fired.{and-same, enabled-same, withdrawn-same, height, height-falls, height-bound, firable-out, fired-only}
-use Rattle.sets.proofs.Bits.{bit-zero, bit-and, bit-out}
+use Rattle.sets.proofs.Bits.{bit-zero, bit-and, bit-out, same-set}
 use Rattle.net.specs.Rows.{cell}
 use Rattle.enabled.specs.Inputs.{in-words, stops-at, enabled-by}
 use Rattle.moves.specs.Moves.{moved-at}
-use Rattle.fire.specs.Fired.{left-enabled, pays, Ranks, Fires}
+use Rattle.fire.specs.Fired.{stopped-at, left-enabled, pays, Ranks, Fires}
+use Rattle.fire.specs.Rivals.{rival, Rivals}
+
+-- What a set does to t at place p depends on those members alone that take from p.
+stopped-same : (m : List ℕ) (w s : List (List ℕ)) (takers : List ℕ) (g g′ t p : ℕ) → g < 2 ^ 64 → g′ < 2 ^ 64
+    → ((u : ℕ) → u < 64 → (bit g u && bit (getD takers p 0) u) ≡ (bit g′ u && bit (getD takers p 0) u))
+    → stopped-at m w s takers g t p ≡ stopped-at m w s takers g′ t p
+stopped-same m w s takers g g′ t p low low′ same =
+    let row : ℕ = getD takers p 0 in
+    let members : bitAnd g row ≡ bitAnd g′ row =
+    same-set (bitAnd g row) (bitAnd g′ row) (lt-of-le-of-lt (and-le-l g row) low) (lt-of-le-of-lt (and-le-l g′ row) low′)
+    (λ u h. bit-and g row u ∙ same u h ∙ sym (bit-and g′ row u)) in
+    let moved : moved-at g takers w p ≡ moved-at g′ takers w p = sum-same 64 _ _ (λ u h. ap (λ (b : Bool). cond b (cell w p u) 0) (same u h)) in
+    rw (members, moved)
+
+-- Rows of rivals serve for the rows of all that stand above.
+module _ {higher takers low high rows : List ℕ} {lower : ℕ} (x : Rivals higher takers low high rows lower) where
+  -- They are ranked, since a rival stands above.
+  pub rivals-rank : Ranks higher → Ranks rows
+  rivals-rank r =
+      record {
+        rank = r .rank;
+        low = r .low;
+        falls = λ t u h v e. r .falls t u h v (and-left (bit (getD higher t 0) u) _ (sym (x .holds t u h v) ∙ e));
+      }
+
+  -- Whoever is not one of those with rivals has none.
+  pub no-rivals : (t : ℕ) → t < 64 → bit lower t ≡ false → (u : ℕ) → u < 64 → bit (getD rows t 0) u ≡ false
+  no-rivals t h e u v = x .holds t u h v ∙ none-elim 64 (rival higher takers low high t) (sym (x .lower-is t h) ∙ e) u v
+
+  -- From a place of t's words whoever stands above t takes only as a rival, so a set that fires by the rivals fires by all that stand above.
+  pub rivals-suffice : {able : ℕ} {m : List ℕ} {w s : List (List ℕ)} {r : ℕ} → r < 2 ^ 64
+      → Fires able rows m w s takers low high r → Fires able higher m w s takers low high r
+  unfolding left-enabled
+  rivals-suffice {able} {m} {w} {s} {r} small f =
+      record {
+        meets =
+            λ t h.
+            f .meets t h
+            ∙ ap (λ (b : Bool). bit able t && not b)
+            (some-same 128 _ _
+            (λ p l.
+            and-same (in-words (getD low t 0) (getD high t 0) p) _ _
+            (λ i. stopped-same m w s takers _ _ t p (part _) (part _) (λ u v. go t h p l i u v (bit (getD takers p 0) u) refl))));
+      }
+    where
+      part : (a : ℕ) → bitAnd r a < 2 ^ 64
+      part a = lt-of-le-of-lt (and-le-l r a) small
+
+      -- Whoever takes from p and stands above t is a rival.
+      go : (t : ℕ) → t < 64 → (p : ℕ) → p < 128 → in-words (getD low t 0) (getD high t 0) p ≡ true → (u : ℕ) → u < 64
+          → (b : Bool) → bit (getD takers p 0) u ≡ b → (bit (bitAnd r (getD rows t 0)) u && b) ≡ (bit (bitAnd r (getD higher t 0)) u && b)
+      go t h p l i u v true e =
+          rw (
+            bit-and r (getD rows t 0) u,
+            bit-and r (getD higher t 0) u,
+            x .holds t u h v,
+            some-intro 128 (λ p. in-words (getD low t 0) (getD high t 0) p && bit (getD takers p 0) u) p l (rw i e),
+            and-true (bit (getD higher t 0) u),
+          )
+      go t h p l i u v false e = and-false (bit (bitAnd r (getD rows t 0)) u) ∙ sym (and-false (bit (bitAnd r (getD higher t 0)) u))
 
 -- The list of f's first n values.
 pub listed : ℕ → (ℕ → ℕ) → List ℕ

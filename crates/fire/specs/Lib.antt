@@ -1,3 +1,4 @@
--- What the fired set is, by the rows of a net, and what one round decides.
+-- What the fired set is, by the rows of a net, what one round decides, and who are a transition's rivals.
 pub mod Fired
 pub mod Round
+pub mod Rivals

@@ -2,11 +2,13 @@
 ghost use mathlib.Core.Bool.{false, _&&_};
 ghost use mathlib.Core.Path.{_≡_};
 ghost use Prim.Native.Nat.{ℕ, _+_, _-_, _≤_, _<_};
-ghost use lib.ListN.{getD};
+ghost use lib.ListN.{getD, replicate};
 ghost use Rattle.meaning.specs.Below.{some};
 ghost use Rattle.meaning.specs.Bytes.{bit};
+ghost use Rattle.net.specs.Rows.{Blank-from};
 ghost use Rattle.fire.specs.Fired.{Ranks, Fires, stopped-at, left-enabled};
 ghost use Rattle.fire.specs.Round.{Round};
+ghost use Rattle.fire.specs.Rivals.{takes-from, Rivals};
 
 // What a round leaves undecided, and what has fired after it.
 struct Split {
@@ -111,7 +113,7 @@ fn one_round(
 }
 
 // The fired set. Whoever has nobody above it fires at once, if firable; `lower` has those that somebody stands above, and they are decided in
-// at most 64 rounds, those of rank k by round k.
+// at most 64 rounds, those of rank k by round k. Rows of rivals give the same set as rows of all that stand above.
 pub fn fired(
     able: u64,
     lower: u64,
@@ -140,4 +142,54 @@ pub fn fired(
         k += 1;
     }
     out
+}
+
+// Who takes from a place of the word. The word has 64 places, from the first on.
+fn takers_from(takers: &[u64; 128], word: u64, from: usize) -> u64
+    requires { ⌜ from ≤ 64 ⌝ }
+    ensures { λ r. ⌜ ((u : ℕ) → bit r u ≡ some 64 (λ p. bit word p && bit (getD (now (takers .entry)) (from + p) 0) u)) ⌝ }
+{
+    let mut all = 0u64;
+    let mut left = word;
+    while left != 0 {
+        let k = sets::lowest(left);
+        all = sets::union(all, takers[from + k]);
+        left = sets::rest(left);
+    }
+    all
+}
+
+// Of those above a transition, whose input arcs come from the places of the two words, who takes from such a place.
+fn rivals_of(above: u64, takers: &[u64; 128], low: u64, high: u64) -> u64
+    ensures { λ r. ⌜ ((u : ℕ) → bit r u ≡ (bit above u && takes-from (now (takers .entry)) low high u)) ⌝ }
+{
+    if above == 0 {
+        return 0;
+    }
+    above & sets::union(takers_from(takers, low, 0), takers_from(takers, high, 64))
+}
+
+// For each transition its rivals: those above it that take from a place from which it has an input arc. Answers who has rivals. From n on nobody
+// stands above a transition, and the rows are lent empty.
+pub fn rivals(
+    higher: &[u64; 64],
+    takers: &[u64; 128],
+    low: &[u64; 64],
+    high: &[u64; 64],
+    rows: &mut [u64; 64],
+    n: usize,
+) -> u64
+    requires { ⌜ Blank-from 64 n (now higher) ⌝ }
+    requires { ⌜ now rows ≡ replicate 64 0 ⌝ }
+    ensures { λ r. ⌜ Rivals (now (higher .entry)) (now (takers .entry)) (now (low .entry)) (now (high .entry)) (now (rows .exit)) r ⌝ }
+{
+    let mut lower = 0u64;
+    let mut t = 0;
+    while t < n {
+        let row = rivals_of(higher[t], takers, low[t], high[t]);
+        rows[t] = row;
+        lower = enabled::with_if(lower, t, row != 0);
+        t += 1;
+    }
+    lower
 }

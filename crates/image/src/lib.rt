@@ -7,7 +7,7 @@ ghost use Rattle.meaning.specs.Bytes.{bit};
 ghost use Rattle.meaning.specs.Image.{image, state, image-bytes};
 ghost use Rattle.image.specs.Records.{Quiet, Marked};
 ghost use Rattle.image.specs.Held.{Holds, held, Small, Lists};
-ghost use Rattle.image.specs.Stored.{Room, Stored};
+ghost use Rattle.image.specs.Stored.{Stored};
 ghost use lib.Dec.{ltb, eqb};
 ghost use Rattle.meaning.specs.Below.{first};
 ghost use Rattle.image.specs.Fit.{most-by, order-by, wrong-place-by, wrong-transition-by, wrong-by};
@@ -87,30 +87,30 @@ fn number(bytes: &[u8], k: usize) -> u32
     pair(cell(bytes, k, 0), cell(bytes, k, 1))
 }
 
-// The tokens of each place.
-fn tokens(bytes: &[u8]) -> [u32; 128]
-    ensures { λ r. ⌜ Lists 128 (state (image (now (bytes .entry))) .tokens) r ⌝ }
+// Fills an array with the tokens of each place.
+fn read_tokens(bytes: &[u8], xs: &mut [u32; 128])
+    requires { ⌜ length (now xs) ≡ 128 ⌝ }
+    ensures { λ _. ⌜ Lists 128 (state (image (now (bytes .entry))) .tokens) (now (xs .exit)) ⌝ }
+    ensures { λ _. ⌜ length (now (xs .exit)) ≡ 128 ⌝ }
 {
-    let mut xs = [0u32; 128];
     let mut p = 0;
     while p < 128 {
         xs[p] = number(bytes, p);
         p += 1;
     }
-    xs
 }
 
-// The counter of each transition.
-fn counters(bytes: &[u8]) -> [u32; 64]
-    ensures { λ r. ⌜ Lists 64 (state (image (now (bytes .entry))) .counter) r ⌝ }
+// Fills an array with the counter of each transition.
+fn read_counters(bytes: &[u8], xs: &mut [u32; 64])
+    requires { ⌜ length (now xs) ≡ 64 ⌝ }
+    ensures { λ _. ⌜ Lists 64 (state (image (now (bytes .entry))) .counter) (now (xs .exit)) ⌝ }
+    ensures { λ _. ⌜ length (now (xs .exit)) ≡ 64 ⌝ }
 {
-    let mut xs = [0u32; 64];
     let mut t = 0;
     while t < 64 {
         xs[t] = number(bytes, 128 + t);
         t += 1;
     }
-    xs
 }
 
 // Has transition t a reset order? Its third byte is 1.
@@ -155,55 +155,54 @@ fn orders(bytes: &[u8]) -> u64
     set
 }
 
-// The state that an image holds, as arrays; bytes past the end read as 0.
-pub fn load(bytes: &[u8]) -> Held
-    ensures { λ h. ⌜ Holds h (state (image (now (bytes .entry)))) ⌝ }
-    ensures { λ h. ⌜ Small h ⌝ }
+// Fills two arrays with the tokens and the counters of the state that an image holds, and answers the set of the transitions with a reset order;
+// bytes past the end read as 0.
+pub fn load(bytes: &[u8], tokens: &mut [u32; 128], counters: &mut [u32; 64]) -> u64
+    requires { ⌜ (length (now tokens) ≡ 128) × (length (now counters) ≡ 64) ⌝ }
+    ensures { λ r. ⌜ Holds (record { tokens = now (tokens .exit); counters = now (counters .exit); orders = r }) (state (image (now (bytes .entry)))) ⌝ }
+    ensures { λ r. ⌜ Small (record { tokens = now (tokens .exit); counters = now (counters .exit); orders = r }) ⌝ }
+    ensures { λ _. ⌜ (length (now (tokens .exit)) ≡ 128) × (length (now (counters .exit)) ≡ 64) ⌝ }
 {
-    let tokens = tokens(bytes);
-    let counters = counters(bytes);
-    let orders = orders(bytes);
-    Held {
-        tokens,
-        counters,
-        orders,
-    }
+    read_tokens(bytes, tokens);
+    read_counters(bytes, counters);
+    orders(bytes)
 }
 
-// The four bytes of record k: a number, the lower byte first, a third byte and 0.
-fn store(bytes: &mut [u8], k: usize, x: u32, third: u8)
-    requires { ⌜ Room (now bytes) k x ⌝ }
-    ensures { λ _. ⌜ Stored (now (bytes .entry)) k x third (now (bytes .exit)) ⌝ }
+// The four bytes of x, the lowest first, become record k.
+fn store(bytes: &mut [u8], k: usize, x: u32)
+    requires { ⌜ length (now bytes) ≡ 768 ⌝ }
+    requires { ⌜ k < 192 ⌝ }
+    ensures { λ _. ⌜ Stored (now (bytes .entry)) k x (now (bytes .exit)) ⌝ }
 {
     let at = 4 * k;
     bytes[at] = (x % 256) as u8;
-    bytes[at + 1] = (x / 256) as u8;
-    bytes[at + 2] = third;
-    bytes[at + 3] = 0;
+    bytes[at + 1] = (x / 256 % 256) as u8;
+    bytes[at + 2] = (x / 65536 % 256) as u8;
+    bytes[at + 3] = (x / 16777216 % 256) as u8;
 }
 
-// 1 for a transition with a reset order, else 0.
-fn mark(orders: u64, t: usize) -> u8
-    ensures { λ r. ⌜ r ≡ cond (bit orders t) 1 0 ⌝ }
+// What a reset order adds to a transition's record: a third byte of 1, else nothing.
+fn mark(orders: u64, t: usize) -> u32
+    ensures { λ r. ⌜ r ≡ cond (bit orders t) 65536 0 ⌝ }
+    ensures { λ r. ⌜ r ≤ 65536 ⌝ }
 {
-    if sets::has(orders, t) { 1 } else { 0 }
+    if sets::has(orders, t) { 65536 } else { 0 }
 }
 
 // The image of a state: all four bytes of each record.
-pub fn save(bytes: &mut [u8], h: Held)
+pub fn save(bytes: &mut [u8], tokens: &[u32; 128], counters: &[u32; 64], orders: u64)
     requires { ⌜ length (now bytes) ≡ 768 ⌝ }
-    requires { ⌜ Small h ⌝ }
-    ensures { λ _. ⌜ now (bytes .exit) ≡ image-bytes (held h) ⌝ }
+    requires { ⌜ Small (record { tokens = now tokens; counters = now counters; orders = orders }) ⌝ }
+    ensures { λ _. ⌜ now (bytes .exit) ≡ image-bytes (held (record { tokens = now (tokens .entry); counters = now (counters .entry); orders = orders })) ⌝ }
 {
     let mut p = 0;
     while p < 128 {
-        store(bytes, p, h.tokens[p], 0);
+        store(bytes, p, tokens[p]);
         p += 1;
     }
     let mut t = 0;
     while t < 64 {
-        let third = mark(h.orders, t);
-        store(bytes, 128 + t, h.counters[t], third);
+        store(bytes, 128 + t, counters[t] + mark(orders, t));
         t += 1;
     }
 }

@@ -3,14 +3,14 @@
 use mathlib.Core.Bool.{Bool, true, false, cond, _&&_}
 use mathlib.Core.List.{List}
 use mathlib.Core.Path.{_≡_, refl, sym, ap, _∙_}
-use Prim.Native.Nat.{ℕ, zero, suc, _+_, _<_}
+use Prim.Native.Nat.{ℕ, zero, suc, _+_, _≤_, _<_}
 use native.Mathlib.Omega.{arith}
 use lib.Dec.{eqb, ltb}
 use lib.ListN.{getD}
 use borrow.Author.Tests.{eqb-true, eq-eqb, ne-eqb, ltb-true, lt-ltb}
 use Rattle.meaning.specs.Below.{some, sum}
 use Rattle.meaning.specs.Bytes.{bit}
-use Rattle.meaning.specs.Table.{Table, total, is, basic}
+use Rattle.meaning.specs.Table.{Table, total, is, arc, basic}
 use Rattle.meaning.specs.Cycle.{withdrawn, added}
 use Rattle.meaning.proofs.Bool.{not-both, and-left, and-right, and-true}
 use Rattle.meaning.proofs.Below.{some-intro, some-elim, sum-same, sum-zero, sum-add}
@@ -18,11 +18,10 @@ use Rattle.meaning.proofs.Reflect.{not-true-false}
 use Rattle.meaning.proofs.Sound.{sum-one}
 use Rattle.net.specs.Rows.{Gathered, Weights, latest, cell}
 use Rattle.net.proofs.Carry.{latest-is}
-use Rattle.places.specs.declared.Places.{Places}
 use Rattle.moves.specs.declared.Moved.{Moved}
 use Rattle.moves.specs.Moves.{moved-at}
 use Rattle.moves.specs.Tallied.{Tallied, moved-by, moved-at-all}
-use Rattle.moves.proofs.Sums.{load-none}
+use Rattle.moves.proofs.Sums.{load-none, load-whole}
 
 -- A sum of sums, taken the other way.
 sum-swap : (m n : ℕ) (h : ℕ → ℕ → ℕ) → sum m (λ t. sum n (λ r. h r t)) ≡ sum n (λ r. sum m (h r))
@@ -130,16 +129,21 @@ module _ (tb : Table) (arcs : (r : ℕ) → r < tb .records → tb .kind r ≡ 3
       (eqb-true _ _ (x .2) ∙ sym (eqb-true _ _ (y .2))) k)
 
 -- What a tally adds up is what the meaning says: over basic arcs what the set withdraws, over post arcs what it puts.
-module _ (tb : Table) (chosen : ℕ) (m : List ℕ) (before : Places) (moved : List ℕ) (x : Moved) where
-  pub taken-is : Tallied tb 0 chosen m before moved x → (p : ℕ) → p < 128 → getD moved p 0 ≡ withdrawn tb (bit chosen) p
+module _ (tb : Table) (chosen : ℕ) (index taken put : List ℕ) (x : Moved) (y : Tallied tb chosen index taken put x) where
+  pub taken-is : (p : ℕ) → p < 128 → getD taken p 0 ≡ withdrawn tb (bit chosen) p
   unfolding withdrawn
-  taken-is y = y .moved-is
+  taken-is = y .taken-is
 
-  pub put-is : Tallied tb 3 chosen m before moved x → (p : ℕ) → p < 128 → getD moved p 0 ≡ added tb (bit chosen) p
+  pub put-is : (p : ℕ) → p < 128 → getD put p 0 ≡ added tb (bit chosen) p
   unfolding added
-  put-is y = y .moved-is
+  put-is = y .put-is
 
 -- Where no arc moves anything, nothing is moved.
 pub unmoved : (tb : Table) (sort : ℕ) (F : ℕ → Bool) (p : ℕ) → moved-at-all tb sort F p ≡ false → moved-by tb sort F p ≡ 0
 unfolding total
 unmoved tb sort F p e = load-none tb sort (λ r. F (tb .two r)) p e
+
+-- What is put at one place is at most what all post arcs weigh.
+pub gain-covers : (tb : Table) (F : ℕ → Bool) (p : ℕ) → moved-by tb 3 F p ≤ total tb (arc tb 3) (tb .four)
+unfolding total
+gain-covers tb F p = load-whole tb 3 (λ r. F (tb .two r)) p

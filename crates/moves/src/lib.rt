@@ -1,18 +1,16 @@
 // What a set of transitions moves: the tokens at a place, by the place's row; and the tokens at every place, by the transitions' chains of arcs.
 use places::Places;
-ghost use mathlib.Core.Bool.{cond, _||_};
+ghost use mathlib.Core.Bool.{cond};
 ghost use mathlib.Core.Path.{_≡_};
-ghost use Prim.Native.Nat.{ℕ, _≤_, _<_};
-ghost use lib.Dec.{eqb};
+ghost use Prim.Native.Nat.{_≤_, _<_};
 ghost use lib.ListN.{getD};
 ghost use Rattle.meaning.specs.Answer.{accepted};
 ghost use Rattle.meaning.specs.Below.{sum};
 ghost use Rattle.meaning.specs.Bytes.{bit};
 ghost use Rattle.meaning.specs.Defined.{check};
 ghost use Rattle.meaning.specs.Table.{table};
-ghost use Rattle.places.specs.Set.{has};
-ghost use Rattle.net.specs.Chains.{Chained};
-ghost use Rattle.moves.specs.Tallied.{Most, Room, Carried, Unmoved, Tallied};
+ghost use Rattle.net.specs.Chains.{Chained, Touches};
+ghost use Rattle.moves.specs.Tallied.{Room, carried, Fits, Followed, Unmoved, Tallied};
 
 // A weight as a number of tokens.
 fn wide(x: u16) -> u32
@@ -35,12 +33,6 @@ pub fn at_place(both: u64, row: &[u16; 64]) -> u32
         t = sets::lowest(left);
     }
     moved
-}
-
-// What was moved: the places, and the most tokens that one of them has together with what was moved there.
-pub struct Moved {
-    pub at: Places,
-    pub crowd: u32,
 }
 
 // A byte as a number of tokens.
@@ -73,79 +65,80 @@ fn weight(t: &[u8], r: usize) -> u32
     byte(t[8 * r + 4]) + 256 * byte(t[8 * r + 5])
 }
 
-// x and place p.
-fn with(x: Places, p: usize) -> Places
-    requires { ⌜ p < 128 ⌝ }
-    ensures { λ r. ⌜ ((q : ℕ) → q < 128 → has r q ≡ (has x q || eqb p q)) ⌝ }
-{
-    let low = x.low;
-    let high = x.high;
-    if p < 64 {
-        Places {
-            low: low | (1 << p),
-            high,
-        }
-    } else {
-        Places {
-            low,
-            high: high | (1 << (p - 64)),
-        }
-    }
-}
-
-// The larger of two numbers of tokens.
-fn most(a: u32, b: u32) -> u32
-    ensures { λ r. ⌜ Most a b r ⌝ }
-{
-    if a < b { b } else { a }
-}
-
 // Arc r moves its weight at its place.
-fn add_arc(t: &[u8], moved: &mut [u32; 128], m: &[u32; 128], r: usize, before: Moved) -> Moved
-    requires { ⌜ Room (table (now t)) r (now m) (now moved) ⌝ }
-    ensures { λ x. ⌜ Carried (table (now (t .entry))) r (now (m .entry)) (now (moved .entry)) before (now (moved .exit)) x ⌝ }
+fn add_arc(t: &[u8], moved: &mut [u32; 128], r: usize)
+    requires { ⌜ Room (table (now t)) r (now moved) ⌝ }
+    ensures { λ _. ⌜ now (moved .exit) ≡ carried (table (now (t .entry))) r (now (moved .entry)) ⌝ }
 {
     let p = place(t, r);
-    let more = moved[p] + weight(t, r);
-    moved[p] = more;
-    let at = before.at;
-    Moved {
-        at: with(at, p),
-        crowd: most(before.crowd, m[p] + more),
+    moved[p] = moved[p] + weight(t, r);
+}
+
+// Adds at each place what transition u moves there over the arcs that `firsts` and `next` chain. `sort` only says, for the contract, of which sort
+// these arcs are.
+fn follow(
+    t: &[u8],
+    moved: &mut [u32; 128],
+    firsts: &[u16; 64],
+    next: &[u16; 1024],
+    u: usize,
+    sort: u8,
+)
+    requires { ⌜ check (now t) ≡ accepted 0 ⌝ }
+    requires { ⌜ Chained (table (now t)) sort (now firsts) (now next) ⌝ }
+    requires { ⌜ (u < 64) × Fits (table (now t)) sort u (now moved) ⌝ }
+    ensures { λ _. ⌜ Followed (table (now (t .entry))) sort u (now (moved .entry)) (now (moved .exit)) ⌝ }
+{
+    let mut link = count(firsts[u]);
+    while link != 0 {
+        let r = link - 1;
+        add_arc(t, moved, r);
+        link = count(next[r]);
     }
 }
 
-// Adds up at each place what the members of `set` move there over the arcs that `firsts` and `next` chain; `moved` is lent empty, and the places
-// moved at join those of `before`. `sort` only says, for the contract, of which sort these arcs are.
+// Where a set of transitions moves tokens, and the functions of its members.
+pub struct Moved {
+    pub at: Places,
+    pub functions: u64,
+}
+
+// Adds up at each place what the members of `set` take there and what they put, over the arcs that `takes`, `puts` and `next` chain; `taken` and
+// `put` are lent empty. `low` and `high` have the places of each transition's arcs, and row 704 + t of the index has the functions of transition t.
 pub fn tally(
     t: &[u8],
-    moved: &mut [u32; 128],
-    m: &[u32; 128],
-    before: Places,
+    taken: &mut [u32; 128],
+    put: &mut [u32; 128],
     set: u64,
-    firsts: &[u16; 64],
+    takes: &[u16; 64],
+    puts: &[u16; 64],
     next: &[u16; 1024],
-    sort: u8,
+    low: &[u64; 64],
+    high: &[u64; 64],
+    index: &[u64; 768],
 ) -> Moved
     requires { ⌜ check (now t) ≡ accepted 0 ⌝ }
-    requires { ⌜ Chained (table (now t)) sort (now firsts) (now next) ⌝ }
-    requires { ⌜ Unmoved (now m) (now moved) ⌝ }
-    ensures { λ x. ⌜ Tallied (table (now (t .entry))) sort set (now (m .entry)) before (now (moved .exit)) x ⌝ }
+    requires { ⌜ Chained (table (now t)) 0 (now takes) (now next) × Chained (table (now t)) 3 (now puts) (now next) ⌝ }
+    requires { ⌜ Touches (table (now t)) (table (now t) .records) (now low) (now high) ⌝ }
+    requires { ⌜ Unmoved (now taken) × Unmoved (now put) ⌝ }
+    ensures { λ x. ⌜ Tallied (table (now (t .entry))) set (now (index .entry)) (now (taken .exit)) (now (put .exit)) x ⌝ }
 {
-    let mut so_far = Moved {
-        at: before,
-        crowd: 0,
-    };
+    let mut at = Places { low: 0, high: 0 };
+    let mut functions = 0u64;
     let mut left = set;
     while left != 0 {
         let u = sets::lowest(left);
         left = sets::rest(left);
-        let mut link = count(firsts[u]);
-        while link != 0 {
-            let r = link - 1;
-            so_far = add_arc(t, moved, m, r, so_far);
-            link = count(next[r]);
-        }
+        let near = low[u];
+        let far = high[u];
+        let own = Places {
+            low: near,
+            high: far,
+        };
+        at = places::union(at, own);
+        functions = sets::union(functions, index[704 + u]);
+        follow(t, taken, takes, next, u, 0);
+        follow(t, put, puts, next, u, 3);
     }
-    so_far
+    Moved { at, functions }
 }

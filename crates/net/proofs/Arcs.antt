@@ -20,11 +20,22 @@ use Rattle.meaning.proofs.Sound.{check-sound}
 ranges : {o t s f x : ℕ} → Shown 3 o t s f x → (o < 128) × (t < 64) × (1 ≤ f) × (f ≤ 65535)
 ranges (Shown.arc a b c d e) = (omega arith, omega arith, d, e)
 
+sort-range : {o t s f x : ℕ} → Shown 3 o t s f x → s ≤ 3
+sort-range (Shown.arc a b c d e) = c
+
 module _ (bs : List ℕ) (e : check bs ≡ accepted 0) where
+  shown : (r : ℕ) → r < table bs .records → table bs .kind r ≡ 3
+      → Shown 3 (table bs .one r) (table bs .two r) (table bs .sort r) (table bs .four r) (table bs .six r)
+  shown r h k = of-kind (table bs) r 3 (check-sound bs (ap (λ (a : Answer). a .number) e) .shown r h) k
+
   -- An arc's place, transition and weight are in range.
   pub arc-ranges : (r : ℕ) → r < table bs .records → table bs .kind r ≡ 3
       → (table bs .one r < 128) × (table bs .two r < 64) × (1 ≤ table bs .four r) × (table bs .four r ≤ 65535)
-  arc-ranges r h k = ranges (of-kind (table bs) r 3 (check-sound bs (ap (λ (a : Answer). a .number) e) .shown r h) k)
+  arc-ranges r h k = ranges (shown r h k)
+
+  -- Its sort is one of the four.
+  pub arc-sort : (r : ℕ) → r < table bs .records → table bs .kind r ≡ 3 → table bs .sort r ≤ 3
+  arc-sort r h k = sort-range (shown r h k)
 
   -- At most 1,024 records.
   pub few-records : table bs .records ≤ 1024

@@ -1,5 +1,4 @@
--- From the rows to the meaning: a bit of a row is a record, and a cell is the one input arc of its place and transition, so what the rows say of two
--- transitions is what the table says.
+-- From the rows to the meaning: a bit of a row is a record, so what the rows say of two transitions is what the table says.
 use mathlib.Core.Bool.{Bool, true, false, cond, not, _&&_, _||_}
 use mathlib.Core.List.{List}
 use mathlib.Core.Logic.{⊎-elim}
@@ -15,9 +14,10 @@ use Rattle.meaning.specs.Bytes.{bit}
 use Rattle.meaning.specs.Table.{Table, is, basic, test, inhibitor}
 use Rattle.meaning.specs.Defined.{conflict, complementary, inhibited}
 use Rattle.meaning.proofs.Bool.{either, not-both, and-left, and-right, and-true, or-true-left, or-true-right, or-cases, same-test}
-use Rattle.meaning.proofs.Below.{last, some-intro, some-elim, none-elim}
+use Rattle.meaning.proofs.Below.{last, some-intro, some-elim}
 use Rattle.meaning.proofs.Pays.{two-elim, two-intro}
-use Rattle.net.specs.Rows.{Gathered, Conflicts, Weights, Sorts, latest, input, cell, inhibits-by}
+use Rattle.net.specs.Rows.{Gathered, Conflicts, latest}
+use Rattle.net.specs.Inputs.{input-to, opposing}
 
 -- Two tests behind a third are the same where they are the same when the third passes.
 behind : (a b c : Bool) → (a ≡ true → b ≡ c) → (a && b) ≡ (a && c)
@@ -196,91 +196,64 @@ sort-low tb r k l =
     or-true-right (basic tb r) (and-true (eq-eqb _ _ k) (eq-eqb (tb .sort r) 1 (omega arith))))
     (either (eqb (tb .sort r) 0))
 
--- An input arc from a place to a transition.
-abbrev Arc : Table → ℕ → ℕ → ℕ → Type 0
-Arc tb p t r = (r < tb .records) × (tb .kind r ≡ 3) × (tb .sort r < 3) × (tb .one r ≡ p) × (tb .two r ≡ t)
+-- Two arcs tell i and j apart exactly if an input arc to j is an inhibitor arc that some arc to i opposes.
+module _ (tb : Table) (i j : ℕ) where
+  abbrev pub stopping : ℕ → Bool
+  stopping q = eqb (tb .sort q) 2 && some (tb .records) (opposing tb i (tb .one q) (tb .four q))
 
--- Equal weights: every arc weighs something, so a cell that is not 0 is an arc's, and no two input arcs share a cell.
-module _ (tb : Table) (w s : List (List ℕ)) (gw : Weights tb w) (gs : Sorts tb s)
-    (arcs : (r : ℕ) → r < tb .records → tb .kind r ≡ 3 → (tb .one r < 128) × (tb .two r < 64) × (1 ≤ tb .four r) × (tb .sort r ≤ 3))
-    (single : (r q : ℕ) → r < tb .records → q < tb .records → tb .kind r ≡ 3 → tb .kind q ≡ 3 → tb .sort r < 3 → tb .sort q < 3
-    → tb .one r ≡ tb .one q → tb .two r ≡ tb .two q → r ≡ q) where
-  module _ (p t : ℕ) (hp : p < 128) (ht : t < 64) where
-    -- The tests of an input arc, as facts.
-    arc-of : (r : ℕ) → r < tb .records → input tb p t r ≡ true → Arc tb p t r
-    arc-of r h e =
-        let x = each (is tb 3 r) (ltb (tb .sort r) 3) (eqb (tb .one r) p) (eqb (tb .two r) t) e in
-        (h, eqb-true _ _ (x .0), ltb-true _ _ (x .1), eqb-true _ _ (x .2), eqb-true _ _ (x .3))
+  -- The tests of an input arc, as facts.
+  input-is : (t r : ℕ) → input-to tb t r ≡ true → (tb .kind r ≡ 3) × (tb .two r ≡ t)
+  input-is t r e =
+      let front = and-left (is tb 3 r && ltb (tb .sort r) 3) (eqb (tb .two r) t) e in
+      (eqb-true _ _ (and-left (is tb 3 r) (ltb (tb .sort r) 3) front), eqb-true _ _ (and-right (is tb 3 r && ltb (tb .sort r) 3) (eqb (tb .two r) t) e))
 
-    -- A cell holds its arc's weight and sort.
-    cell-arc : (r : ℕ) → Arc tb p t r → (cell w p t ≡ tb .four r) × (cell s p t ≡ tb .sort r)
-    cell-arc r a =
-        let passes : input tb p t r ≡ true = all (eq-eqb _ _ (a .1)) (lt-ltb _ _ (a .2)) (eq-eqb _ _ (a .3)) (eq-eqb _ _ (a .4)) in (
-          gw .holds p t hp ht ∙ latest-is (tb .records) (input tb p t) (tb .four) r (a .0) passes alone,
-          gs .holds p t hp ht ∙ latest-is (tb .records) (input tb p t) (tb .sort) r (a .0) passes alone,
-        )
-      where
-        alone : (q : ℕ) → q < tb .records → input tb p t q ≡ true → q ≡ r
-        alone q h e =
-            let b = arc-of q h e in
-            single q r h (a .0) (b .1) (a .1) (b .2) (a .2) (b .3 ∙ sym (a .3)) (b .4 ∙ sym (a .4))
+  is-input : (t r : ℕ) → tb .kind r ≡ 3 → tb .sort r < 3 → tb .two r ≡ t → input-to tb t r ≡ true
+  is-input t r k l e = and-true (and-true (eq-eqb _ _ k) (lt-ltb _ _ l)) (eq-eqb _ _ e)
 
-    -- A cell that weighs something has an arc.
-    arc-at : ¬ (cell w p t ≡ 0) → (r : ℕ) × Arc tb p t r
-    arc-at n =
-        ⊎-elim
-        (λ (e : some (tb .records) (input tb p t) ≡ true).
-        let x = some-elim (tb .records) (input tb p t) e in
-        (x .0, arc-of (x .0) (x .1) (x .2)))
-        (λ (e : some (tb .records) (input tb p t) ≡ false).
-        absurd (n (gw .holds p t hp ht ∙ latest-none (tb .records) (input tb p t) (tb .four) (none-elim (tb .records) (input tb p t) e))))
-        (either (some (tb .records) (input tb p t)))
+  stopped : (r q : ℕ) → r < tb .records → q < tb .records → input-to tb j q ≡ true → tb .sort q ≡ 2
+      → opposing tb i (tb .one q) (tb .four q) r ≡ true → inhibited tb i j ≡ true
+  unfolding inhibited
+  stopped r q hr hq to two e =
+      let own = eqb (tb .one r) (tb .one q) in
+      let weight = eqb (tb .four r) (tb .four q) in
+      let rest : (ltb (tb .sort r) 2 && own && weight) ≡ true = and-right (input-to tb i r) (ltb (tb .sort r) 2 && own && weight) e in
+      let front : (ltb (tb .sort r) 2 && own) ≡ true = and-left (ltb (tb .sort r) 2 && own) weight rest in
+      let from = input-is i r (and-left (input-to tb i r) (ltb (tb .sort r) 2 && own && weight) e) in
+      let at = input-is j q to in
+      let place : tb .one r ≡ tb .one q = eqb-true (tb .one r) (tb .one q) (and-right (ltb (tb .sort r) 2) own front) in
+      let same : tb .four r ≡ tb .four q = eqb-true (tb .four r) (tb .four q) (and-right (ltb (tb .sort r) 2 && own) weight rest) in
+      two-intro (tb .records) _ _ r q hr hq
+      (and-true (sort-low tb r (from .0) (ltb-true _ _ (and-left (ltb (tb .sort r) 2) own front))) (eq-eqb _ _ (from .1)))
+      (all (and-true (eq-eqb _ _ (at .0)) (eq-eqb _ _ two)) (eq-eqb _ _ (at .1)) (eq-eqb (tb .one q) (tb .one r) (sym place))
+      (eq-eqb (tb .four q) (tb .four r) (sym same)))
 
-  -- So the cells find the same two arcs as the table.
-  pub inhibits-same : (i j : ℕ) → i < 64 → j < 64 → inhibits-by w s i j ≡ inhibited tb i j
-  unfolding inhibits-by inhibited
-  inhibits-same i j hi hj =
-      same-test (inhibits-by w s i j) (inhibited tb i j)
+  stops : (r q : ℕ) → r < tb .records → q < tb .records → ((basic tb r || test tb r) && eqb (tb .two r) i) ≡ true
+      → (inhibitor tb q && eqb (tb .two q) j && eqb (tb .one q) (tb .one r) && eqb (tb .four q) (tb .four r)) ≡ true
+      → some (tb .records) (λ q. input-to tb j q && stopping q) ≡ true
+  stops r q hr hq er eq =
+      let low = low-sort tb r (and-left (basic tb r || test tb r) (eqb (tb .two r) i) er) in
+      let x = each (inhibitor tb q) (eqb (tb .two q) j) (eqb (tb .one q) (tb .one r)) (eqb (tb .four q) (tb .four r)) eq in
+      let sort : tb .sort q ≡ 2 = eqb-true _ _ (and-right (is tb 3 q) (eqb (tb .sort q) 2) (x .0)) in
+      let kind : tb .kind q ≡ 3 = eqb-true _ _ (and-left (is tb 3 q) (eqb (tb .sort q) 2) (x .0)) in
+      let place : tb .one q ≡ tb .one r = eqb-true _ _ (x .2) in
+      let weight : tb .four q ≡ tb .four r = eqb-true _ _ (x .3) in
+      let here : opposing tb i (tb .one q) (tb .four q) r ≡ true =
+      and-true (is-input i r (low .0) (omega (arith, low .1)) (eqb-true _ _ (and-right (basic tb r || test tb r) (eqb (tb .two r) i) er)))
+      (and-true (and-true (lt-ltb _ _ (low .1)) (eq-eqb _ _ (sym place))) (eq-eqb _ _ (sym weight))) in
+      some-intro (tb .records) (λ q. input-to tb j q && stopping q) q hq
+      (and-true (is-input j q kind (omega (arith, sort)) (eqb-true _ _ (x .1)))
+      (and-true (eq-eqb _ _ sort) (some-intro (tb .records) (opposing tb i (tb .one q) (tb .four q)) r hr here)))
+
+  pub inhibited-same : some (tb .records) (λ q. input-to tb j q && stopping q) ≡ inhibited tb i j
+  unfolding inhibited
+  inhibited-same =
+      same-test _ (inhibited tb i j)
       (λ e.
-      let x = some-elim 128 tests (and-right (ltb i 64 && ltb j 64) (some 128 tests) e) in
-      to (x .0) (x .1) (x .2))
+      let x = some-elim (tb .records) (λ q. input-to tb j q && stopping q) e in
+      let both = and-right (input-to tb j (x .0)) (stopping (x .0)) (x .2) in
+      let against = some (tb .records) (opposing tb i (tb .one (x .0)) (tb .four (x .0))) in
+      let y = some-elim (tb .records) (opposing tb i (tb .one (x .0)) (tb .four (x .0))) (and-right (eqb (tb .sort (x .0)) 2) against both) in
+      stopped (y .0) (x .0) (y .1) (x .1) (and-left (input-to tb j (x .0)) (stopping (x .0)) (x .2)) (eqb-true _ _ (and-left (eqb (tb .sort (x .0)) 2) against both)) (y .2))
       (λ e.
       let x = two-elim (tb .records) _ _ e in
-      from (x .0) (x .1) (x .2) (x .3) (x .4) (x .5))
-    where
-      tests : ℕ → Bool
-      tests p = not (eqb (cell w p i) 0) && eqb (cell w p j) (cell w p i) && ltb (cell s p i) 2 && eqb (cell s p j) 2
-
-      to : (p : ℕ) → p < 128 → tests p ≡ true → inhibited tb i j ≡ true
-      to p hp e =
-          let x = each (not (eqb (cell w p i) 0)) (eqb (cell w p j) (cell w p i)) (ltb (cell s p i) 2) (eqb (cell s p j) 2) e in
-          let some-weight : ¬ (cell w p i ≡ 0) = eqb-false _ _ (not-true (eqb (cell w p i) 0) (x .0)) in
-          let weights : cell w p j ≡ cell w p i = eqb-true _ _ (x .1) in
-          let a = arc-at p i hp hi some-weight in
-          let b = arc-at p j hp hj (λ z. some-weight (sym weights ∙ z)) in
-          let at-a = cell-arc p i hp hi (a .0) (a .1) in
-          let at-b = cell-arc p j hp hj (b .0) (b .1) in
-          two-intro (tb .records) _ _ (a .0) (b .0) (a .1 .0) (b .1 .0)
-          (and-true (sort-low tb (a .0) (a .1 .1) (omega (arith, at-a .1, ltb-true (cell s p i) 2 (x .2)))) (eq-eqb _ _ (a .1 .4)))
-          (all (and-true (eq-eqb _ _ (b .1 .1)) (eq-eqb (tb .sort (b .0)) 2 (sym (at-b .1) ∙ eqb-true (cell s p j) 2 (x .3))))
-          (eq-eqb _ _ (b .1 .4)) (eq-eqb _ _ (b .1 .3 ∙ sym (a .1 .3))) (eq-eqb _ _ (sym (at-b .0) ∙ weights ∙ at-a .0)))
-
-      from : (r q : ℕ) → r < tb .records → q < tb .records → ((basic tb r || test tb r) && eqb (tb .two r) i) ≡ true
-          → (inhibitor tb q && eqb (tb .two q) j && eqb (tb .one q) (tb .one r) && eqb (tb .four q) (tb .four r)) ≡ true
-          → inhibits-by w s i j ≡ true
-      from r q hr hq er eq =
-          let low = low-sort tb r (and-left (basic tb r || test tb r) (eqb (tb .two r) i) er) in
-          let x = each (inhibitor tb q) (eqb (tb .two q) j) (eqb (tb .one q) (tb .one r)) (eqb (tb .four q) (tb .four r)) eq in
-          let sort-q : tb .sort q ≡ 2 = eqb-true _ _ (and-right (is tb 3 q) (eqb (tb .sort q) 2) (x .0)) in
-          let known = arcs r hr (low .0) in
-          let p = tb .one r in
-          let a : Arc tb p i r = (hr, low .0, omega arith, refl, eqb-true _ _ (and-right (basic tb r || test tb r) (eqb (tb .two r) i) er)) in
-          let b : Arc tb p j q =
-          (hq, eqb-true _ _ (and-left (is tb 3 q) (eqb (tb .sort q) 2) (x .0)), omega arith, eqb-true _ _ (x .2), eqb-true _ _ (x .1)) in
-          let at-a = cell-arc p i (known .0) hi r a in
-          let at-b = cell-arc p j (known .0) hj q b in
-          and-true (and-true (lt-ltb i 64 hi) (lt-ltb j 64 hj))
-          (some-intro 128 tests p (known .0)
-          (all (ap not (ne-eqb (cell w p i) 0 (λ z. omega (arith, at-a .0, known .2))))
-          (eq-eqb _ _ (at-b .0 ∙ eqb-true (tb .four q) (tb .four r) (x .3) ∙ sym (at-a .0))) (lt-ltb (cell s p i) 2 (omega (arith, at-a .1, low .1)))
-          (eq-eqb _ _ (at-b .1 ∙ sort-q))))
+      stops (x .0) (x .1) (x .2) (x .3) (x .4) (x .5))

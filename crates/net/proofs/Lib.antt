@@ -1,7 +1,9 @@
 -- What the proofs of the functions share, and the laws that carry the rows to the meaning.
 pub mod Step
-pub mod Tests
+pub mod Filing
 pub mod Arcs
 pub mod Links
+pub mod Touching
+pub mod Walks
 pub mod Carry
 pub mod Reach

@@ -1,9 +1,9 @@
 -- One more record: an array that holds what the first r records say holds what r + 1 say, after one store or none. A record that passes its
--- test stands in one row, and one that fails stands in none.
+-- test stands in one row, and one that fails stands in none. Past the last record all have been read.
 use mathlib.Core.Bool.{Bool, true, false, cond, _&&_, _||_, or-false}
 use mathlib.Core.List.{List, []}
 use mathlib.Core.Path.{_≡_, refl, sym, ap, _∙_}
-use Prim.Native.Nat.{ℕ, _+_, _<_}
+use Prim.Native.Nat.{ℕ, _+_, _/_, _≤_, _<_}
 use native.Mathlib.Numerals.{add-one}
 use native.Mathlib.Omega.{arith}
 use lib.Dec.{eqb, ltb}
@@ -12,11 +12,16 @@ use lib.Seq.{getD-set-same, getD-set-other}
 use borrow.Author.Tests.{eqb-true, eqb-false, lt-ltb, ltb-true}
 use Rattle.meaning.specs.Below.{some}
 use Rattle.meaning.specs.Bytes.{bit}
-use Rattle.meaning.specs.Table.{Table}
+use Rattle.meaning.specs.Table.{Table, table, is}
 use Rattle.meaning.proofs.Bool.{and-left, and-right, and-true, not-both, same-test}
+use Rattle.meaning.proofs.Reflect.{not-true-false}
 use Rattle.sets.proofs.Bits.{bit-zero}
 use Rattle.net.specs.Rows.{latest, cell, input}
-use Rattle.net.specs.Grow.{Grown, Kept}
+use Rattle.net.specs.Grow.{Grown, Kept, declares, Told}
+
+pub all-read : (bs : List ℕ) (r : ℕ) → r ≤ length bs / 8 → length bs / 8 ≤ r → r ≡ table bs .records
+unfolding table
+all-read bs r h l = omega arith
 
 -- A test that implies one that fails, fails.
 fails : {a b : Bool} → (a ≡ true → b ≡ true) → b ≡ false → a ≡ false
@@ -27,10 +32,6 @@ in-range : (k c : Bool) (o x m : ℕ) → x < m → (k && eqb o x && c) ≡ true
 in-range k c o x m h e =
     let f : (k && eqb o x) ≡ true = and-left (k && eqb o x) c e in
     and-true (and-left k (eqb o x) f) (lt-ltb o m (omega (arith, eqb-true o x (and-right k (eqb o x) f))))
-
-both-in-range : (k : Bool) (o x m t y n : ℕ) → x < m → y < n → (k && eqb o x && eqb t y) ≡ true → (k && ltb o m && ltb t n) ≡ true
-both-in-range k o x m t y n hx hy e =
-    and-true (in-range k (eqb t y) o x m hx e) (lt-ltb t n (omega (arith, eqb-true t y (and-right (k && eqb o x) (eqb t y) e))))
 
 module _ (m : ℕ) (f : ℕ → ℕ → ℕ → Bool) where
   -- Before the first record all rows are empty.
@@ -94,38 +95,35 @@ module _ (tb : Table) (f : ℕ → ℕ) where
       row : (p : ℕ) → p < 128 → getD (replicate 128 empty) p [] ≡ empty
       row p h = getD-replicate 128 p empty [] h
 
-  -- Record r, where k holds, is an input arc of place a and transition b.
-  module _ (r : ℕ) (w : List (List ℕ)) (g : Kept tb f r w) (k : Bool) (a b : ℕ)
-      (says : (p t : ℕ) → input tb p t r ≡ (k && eqb a p && eqb b t)) where
-    -- There is no such cell.
-    pub kept-same : (k && ltb a 128 && ltb b 64) ≡ false → Kept tb f (r + 1) w
+  module _ (r : ℕ) (w : List (List ℕ)) (g : Kept tb f r w) where
+    -- Record r is no input arc.
+    pub kept-same : (is tb 3 r && ltb (tb .sort r) 3) ≡ false → Kept tb f (r + 1) w
     unfolding latest
-    kept-same e =
-        record {
-          places = g .places;
-          transitions = g .transitions;
-          holds = λ p t h l. g .holds p t h l ∙ rw (add-one r, says p t, fails (both-in-range k a p 128 b t 64 h l) e);
-        }
+    kept-same e = record { places = g .places; transitions = g .transitions; holds = λ p t h l. g .holds p t h l ∙ rw (add-one r, e) }
 
-    -- There is one, and it takes what the record says.
-    pub kept-more : (k && ltb a 128 && ltb b 64) ≡ true → (v : ℕ) → v ≡ f r → Kept tb f (r + 1) (set w a (set (getD w a []) b v))
+    -- It is one from place a to transition b, whose cell takes what the record says.
+    pub kept-more : (a b : ℕ) → a < 128 → b < 64 → input tb a b r ≡ true → (v : ℕ) → v ≡ f r
+        → Kept tb f (r + 1) (set w a (set (getD w a []) b v))
     unfolding latest
-    kept-more e v is =
+    kept-more a b place transition here v is =
         record {
           places = length-set w a (set (getD w a []) b v) ∙ g .places;
           transitions = λ p h. long p h (eqb a p) refl;
           holds = λ p t h l.
-              rw (add-one r, says p t, and-left k (ltb a 128) front, ← g .holds p t h l) (at p t (eqb a p) (eqb b t) refl refl);
+              rw (add-one r, and-left arcs (eqb (tb .one r) a) front, one, two, ← g .holds p t h l) (at p t (eqb a p) (eqb b t) refl refl);
         }
       where
-        front : (k && ltb a 128) ≡ true
-        front = and-left (k && ltb a 128) (ltb b 64) e
+        arcs : Bool
+        arcs = eqb (tb .kind r) 3 && ltb (tb .sort r) 3
 
-        place : a < 128
-        place = ltb-true a 128 (and-right k (ltb a 128) front)
+        front : (arcs && eqb (tb .one r) a) ≡ true
+        front = and-left (arcs && eqb (tb .one r) a) (eqb (tb .two r) b) here
 
-        transition : b < 64
-        transition = ltb-true b 64 (and-right (k && ltb a 128) (ltb b 64) e)
+        one : tb .one r ≡ a
+        one = eqb-true (tb .one r) a (and-right arcs (eqb (tb .one r) a) front)
+
+        two : tb .two r ≡ b
+        two = eqb-true (tb .two r) b (and-right (arcs && eqb (tb .one r) a) (eqb (tb .two r) b) here)
 
         same : (p : ℕ) → eqb a p ≡ true → getD (set w a (set (getD w a []) b v)) p [] ≡ set (getD w a []) b v
         same p x = rw (← eqb-true a p x) (getD-set-same w a (set (getD w a []) b v) [] (omega (arith, place, g .places)))
@@ -148,3 +146,38 @@ module _ (tb : Table) (f : ℕ → ℕ) where
             ∙ rw (eqb-true a p x)
         at p t false true x y = ap (λ (l : List ℕ). getD l t 0) (other p x)
         at p t false false x y = ap (λ (l : List ℕ). getD l t 0) (other p x)
+
+module _ (tb : Table) (f : ℕ → ℕ) where
+  -- Before the first record every transition has 0.
+  pub told-none : Told tb f 0 (replicate 64 0)
+  unfolding latest
+  told-none = record { size = length-replicate {A = ℕ} 64 0; holds = λ t h. getD-replicate 64 t 0 0 h }
+
+  module _ (r : ℕ) (xs : List ℕ) (g : Told tb f r xs) where
+    -- Record r declares no transition below 64.
+    pub told-same : (is tb 2 r && ltb (tb .one r) 64) ≡ false → Told tb f (r + 1) xs
+    unfolding latest
+    told-same e = record { size = g .size; holds = λ t h. g .holds t h ∙ rw (add-one r, other t h) }
+      where
+        other : (t : ℕ) → t < 64 → declares tb t r ≡ false
+        other t h =
+            not-true-false (declares tb t r)
+            (λ q.
+            let one : tb .one r ≡ t = eqb-true _ _ (and-right (is tb 2 r) (eqb (tb .one r) t) q) in
+            not-both (and-true (and-left (is tb 2 r) (eqb (tb .one r) t) q) (lt-ltb (tb .one r) 64 (omega arith))) e)
+
+    -- It declares one, which takes what the record says.
+    pub told-more : (is tb 2 r && ltb (tb .one r) 64) ≡ true → (v : ℕ) → v ≡ f r → Told tb f (r + 1) (set xs (tb .one r) v)
+    unfolding latest
+    told-more e v says =
+        record {
+          size = length-set xs (tb .one r) v ∙ g .size;
+          holds = λ t h. rw (add-one r, and-left (is tb 2 r) (ltb (tb .one r) 64) e, ← g .holds t h) (at t (eqb (tb .one r) t) refl);
+        }
+      where
+        low : tb .one r < 64
+        low = ltb-true (tb .one r) 64 (and-right (is tb 2 r) (ltb (tb .one r) 64) e)
+
+        at : (t : ℕ) (b : Bool) → eqb (tb .one r) t ≡ b → getD (set xs (tb .one r) v) t 0 ≡ cond b (f r) (getD xs t 0)
+        at t true q = rw (← eqb-true (tb .one r) t q) (getD-set-same xs (tb .one r) v 0 (omega (arith, low, g .size)) ∙ says)
+        at t false q = getD-set-other xs (tb .one r) t v 0 (λ z. eqb-false (tb .one r) t q (sym z))

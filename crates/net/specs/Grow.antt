@@ -24,3 +24,12 @@ pub record Kept (tb : Table) (f : ℕ → ℕ) (r : ℕ) (w : List (List ℕ)) :
   pub places : length w ≡ 128
   pub transitions : (p : ℕ) → p < 128 → length (getD w p []) ≡ 64
   pub holds : (p t : ℕ) → p < 128 → t < 64 → cell w p t ≡ latest r (input tb p t) f
+
+-- Record k declares transition t.
+abbrev pub declares : Table → ℕ → ℕ → Bool
+declares tb t k = is tb 2 k && eqb (tb .one k) t
+
+-- Each transition has column f of the last record that declares it, of the first r records.
+pub record Told (tb : Table) (f : ℕ → ℕ) (r : ℕ) (xs : List ℕ) : Type 0 where
+  pub size : length xs ≡ 64
+  pub holds : (t : ℕ) → t < 64 → getD xs t 0 ≡ latest r (declares tb t) f

@@ -3,3 +3,4 @@ pub mod Rows
 pub mod Grow
 pub mod Pass
 pub mod Chains
+pub mod Inputs

@@ -1,5 +1,5 @@
 -- What each array holds, in terms of the table's records.
-use mathlib.Core.Bool.{Bool, false, cond, not, _&&_, _||_}
+use mathlib.Core.Bool.{Bool, false, cond, _&&_, _||_}
 use mathlib.Core.List.{List, []}
 use mathlib.Core.Path.{_≡_}
 use Prim.Native.Nat.{ℕ, zero, suc, _≤_, _<_}
@@ -26,6 +26,7 @@ pub record Shared (rows : List ℕ) (set : ℕ) (after : List ℕ) : Type 0 wher
 
 -- Bit j of row i: some place's row has both i and j.
 pub record Conflicts (takers rows : List ℕ) : Type 0 where
+  pub size : length rows ≡ 64
   pub holds : (i j : ℕ) → i < 64 → bit (getD rows i 0) j ≡ some 128 (λ p. bit (getD takers p 0) i && bit (getD takers p 0) j)
 
 -- What column f says in the last of the first n records that passes p; 0 where none does.
@@ -46,9 +47,3 @@ pub record Weights (tb : Table) (w : List (List ℕ)) : Type 0 where
 
 pub record Sorts (tb : Table) (s : List (List ℕ)) : Type 0 where
   pub holds : (p t : ℕ) → p < 128 → t < 64 → cell s p t ≡ latest (tb .records) (input tb p t) (tb .sort)
-
--- Some place has an arc of sort 0 or 1 to i and one of sort 2 and the same weight to j.
-unfoldable pub inhibits-by : List (List ℕ) → List (List ℕ) → ℕ → ℕ → Bool
-inhibits-by w s i j =
-    ltb i 64 && ltb j 64
-    && some 128 (λ p. not (eqb (cell w p i) 0) && eqb (cell w p j) (cell w p i) && ltb (cell s p i) 2 && eqb (cell s p j) 2)

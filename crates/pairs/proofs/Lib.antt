@@ -1,3 +1,4 @@
 -- Which pairs are loose, by the rows and by the table.
 pub mod Candidates
+pub mod Left
 pub mod Carry

@@ -1,43 +1,43 @@
 // Sets of the places 0 to 127, as two words: places 0 to 63, and places 64 to 127.
-ghost use mathlib.Core.Bool.{_&&_, _||_, not};
+ghost use mathlib.Core.Bool.{_||_};
 ghost use mathlib.Core.Path.{_≡_};
-ghost use Prim.Native.Nat.{ℕ, _<_};
-ghost use lib.Dec.{eqb};
-ghost use Rattle.meaning.specs.Below.{first};
-ghost use Rattle.places.specs.Set.{has};
+ghost use Prim.Native.Nat.{ℕ};
+ghost use Rattle.places.specs.Set.{has, Cut};
 
 pub struct Places {
     pub low: u64,
     pub high: u64,
 }
 
-// The lowest place of x, or 128 if there is none.
-pub fn first(x: Places) -> usize
-    ensures { λ r. ⌜ r ≡ first 128 (has x) ⌝ }
-{
-    let low = x.low;
-    if low == 0 {
-        64 + sets::lowest(x.high)
-    } else {
-        sets::lowest(low)
-    }
+// The lowest place of a set, or 128 if there is none, and the set without it.
+pub struct Walk {
+    pub first: usize,
+    pub rest: Places,
 }
 
-// x less its lowest place.
-pub fn rest(x: Places) -> Places
-    ensures { λ r. ⌜ ((q : ℕ) → q < 128 → has r q ≡ (has x q && not (eqb (first 128 (has x)) q))) ⌝ }
+// Takes the lowest place out of x.
+pub fn step(x: Places) -> Walk
+    ensures { λ w. ⌜ Cut x w ⌝ }
 {
     let low = x.low;
     let high = x.high;
     if low == 0 {
-        Places {
+        let rest = Places {
             low,
             high: sets::rest(high),
+        };
+        Walk {
+            first: 64 + sets::lowest(high),
+            rest,
         }
     } else {
-        Places {
+        let rest = Places {
             low: sets::rest(low),
             high,
+        };
+        Walk {
+            first: sets::lowest(low),
+            rest,
         }
     }
 }

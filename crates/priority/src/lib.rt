@@ -1,6 +1,6 @@
 // The closed priority: for each transition the set of those below it.
 ghost use mathlib.Core.Path.{_≡_};
-ghost use Rattle.meaning.specs.Below.{some, first};
+ghost use Rattle.meaning.specs.Below.{first};
 ghost use Rattle.meaning.specs.Bytes.{bit};
 ghost use Prim.Native.Nat.{ℕ, _<_};
 ghost use lib.ListN.{length, getD, replicate};
@@ -77,32 +77,17 @@ fn spread(above: &mut [u64; 64], row: u64, u: usize)
     }
 }
 
-// The rows turned: for each transition the set of those above it. The rows from n on are empty.
-pub fn turn(rows: &[u64; 64], n: usize) -> [u64; 64]
+// The rows turned: for each transition the set of those above it. The rows from n on are empty, and the sets are lent empty.
+pub fn turn(rows: &[u64; 64], n: usize, above: &mut [u64; 64])
     requires { ⌜ Bare n (now rows) ⌝ }
-    ensures { λ r. ⌜ ((t u : ℕ) → t < 64 → u < 64 → bit (getD r t 0) u ≡ bit (getD (now (rows .entry)) u 0) t) ⌝ }
+    requires { ⌜ now above ≡ replicate 64 0 ⌝ }
+    ensures { λ _. ⌜ ((t u : ℕ) → t < 64 → u < 64 → bit (getD (now (above .exit)) t 0) u ≡ bit (getD (now (rows .entry)) u 0) t) ⌝ }
 {
-    let mut above = [0u64; 64];
     let mut u = 0;
     while u < n {
         if rows[u] != 0 {
-            spread(&mut above, rows[u], u);
+            spread(above, rows[u], u);
         }
         u += 1;
     }
-    above
-}
-
-// Those that somebody stands above. The rows from n on are empty.
-pub fn lower(rows: &[u64; 64], n: usize) -> u64
-    requires { ⌜ Bare n (now rows) ⌝ }
-    ensures { λ r. ⌜ ((t : ℕ) → bit r t ≡ some 64 (λ u. bit (getD (now (rows .entry)) u 0) t)) ⌝ }
-{
-    let mut all: u64 = 0;
-    let mut u = 0;
-    while u < n {
-        all = sets::union(all, rows[u]);
-        u += 1;
-    }
-    all
 }

@@ -3,7 +3,8 @@ ghost use mathlib.Core.Path.{_≡_};
 ghost use mathlib.Core.Bool.{not, _&&_, _||_};
 ghost use lib.Dec.{ltb, eqb};
 ghost use lib.ListN.{getD};
-ghost use Prim.Native.Nat.{_+_, _*_};
+ghost use Prim.Native.Nat.{_+_, _*_, _-_, _≤_};
+ghost use mathlib.Core.List.{[]};
 ghost use Rattle.meaning.specs.Table.{table};
 ghost use Rattle.records.specs.Record.{Reads, kind-rows, interval-of, fault-of};
 
@@ -136,12 +137,32 @@ fn over(row: &[u16; 5], one: u8, two: u8, four: u16, six: u16) -> bool
     row[4] < six
 }
 
-// 2 or 3, the first that the record meets, or 0: its kind and sort exist, then each column is within its kind's row.
+// 2 or 3, the first that a record meets whose kind exists, or 0: its sort exists, then each column is within the row of its kind.
+fn by_row(kind: u8, one: u8, two: u8, sort: u8, four: u16, six: u16, row: &[u16; 5]) -> u8
+    requires { ⌜ (1 ≤ kind) × (kind ≤ 7) × (now row ≡ getD kind-rows (kind - 1) []) ⌝ }
+    ensures { λ f. ⌜ f ≡ fault-of (record { kind = kind; one = one; two = two; sort = sort; four = four; six = six }) ⌝ }
+{
+    if row[2] < half(sort) {
+        return 2;
+    }
+    if over(row, one, two, four, six) {
+        return 3;
+    }
+    if bad_value(kind, sort, four, six) {
+        return 3;
+    }
+    0
+}
+
+// 2 or 3, the first that the record meets, or 0. Arcs, of which a table has most, are asked first.
 pub fn fault(x: Rec, kinds: &[[u16; 5]; 7]) -> u8
     requires { ⌜ now kinds ≡ kind-rows ⌝ }
     ensures { λ f. ⌜ f ≡ fault-of x ⌝ }
 {
     let kind = x.kind;
+    if kind == 3 {
+        return by_row(3, x.one, x.two, x.sort, x.four, x.six, &kinds[2]);
+    }
     if kind == 0 {
         return 2;
     }
@@ -149,15 +170,5 @@ pub fn fault(x: Rec, kinds: &[[u16; 5]; 7]) -> u8
         return 2;
     }
     let k = wide(kind) - 1;
-    let sort = half(x.sort);
-    if kinds[k][2] < sort {
-        return 2;
-    }
-    if over(&kinds[k], x.one, x.two, x.four, x.six) {
-        return 3;
-    }
-    if bad_value(kind, x.sort, x.four, x.six) {
-        return 3;
-    }
-    0
+    by_row(kind, x.one, x.two, x.sort, x.four, x.six, &kinds[k])
 }

@@ -1,6 +1,6 @@
 -- From the index to the table: an action or function is in the row of each place or transition that carries it, so the union of rows is what the table says.
-use mathlib.Core.Bool.{Bool, true, false, not, _&&_, and-false, Bool·beq}
-use mathlib.Core.List.{List, _++_}
+use mathlib.Core.Bool.{Bool, true, _&&_, Bool·beq}
+use mathlib.Core.List.{List}
 use mathlib.Core.Path.{_≡_, refl, sym, ap, _∙_}
 use Prim.Native.Nat.{ℕ, _+_, _^_, _<_}
 use native.Mathlib.Omega.{arith}
@@ -8,17 +8,15 @@ use lib.Dec.{ltb, eqb}
 use lib.ListN.{getD}
 use borrow.Author.Tests.{eqb-true, eq-eqb}
 use Rattle.meaning.specs.Below.{some, every}
-use Rattle.meaning.specs.Bytes.{bit, bits, bytes}
+use Rattle.meaning.specs.Bytes.{bit, bits}
 use Rattle.meaning.specs.Table.{Table, is}
 use Rattle.meaning.specs.Defined.{faulty}
-use Rattle.meaning.specs.Cycle.{active, executed, record-of}
+use Rattle.meaning.specs.Cycle.{active, executed}
 use Rattle.meaning.proofs.Bool.{and-left, and-right, and-true, same-test}
 use Rattle.meaning.proofs.Below.{some-intro, some-elim, some-same}
 use Rattle.meaning.proofs.Shows.{Shows}
 use Rattle.meaning.proofs.Faults.{faultless}
-use Rattle.sets.proofs.Bits.{bit-zero, bits-bit, bits-low, same-set}
-use Rattle.places.specs.declared.Places.{Places}
-use Rattle.places.specs.Set.{has}
+use Rattle.sets.proofs.Bits.{bits-bit, bits-low, same-set}
 use Rattle.table.specs.Index.{row}
 use Rattle.table.proofs.Carry.{Clean}
 use Rattle.table.proofs.Rows.{base, width, kind-of, spot, row-test, within, class-is}
@@ -90,33 +88,7 @@ module _ {tb : Table} {index : List ℕ} (clean : Clean tb index) where
   unfolding active every
   actions-are m k h = union-is 6 6 k (λ p. ltb 0 (m p)) (omega arith) h refl
 
-  -- Only places that have actions need asking.
-  pub acting-same : (at : Places) → ((p : ℕ) → p < 128 → has at p ≡ not (eqb (getD index (576 + p) 0) 0)) → (m : ℕ → ℕ) (k : ℕ)
-      → some 128 (λ p. has at p && (ltb 0 (m p) && bit (getD index (576 + p) 0) k)) ≡ some 128 (λ p. ltb 0 (m p) && bit (getD index (576 + p) 0) k)
-  acting-same at filled m k = some-same 128 _ _ (λ p h. rw (filled p h) (go p (eqb (getD index (576 + p) 0) 0) refl))
-    where
-      go : (p : ℕ) (b : Bool) → eqb (getD index (576 + p) 0) 0 ≡ b
-          → (not b && (ltb 0 (m p) && bit (getD index (576 + p) 0) k)) ≡ (ltb 0 (m p) && bit (getD index (576 + p) 0) k)
-      go p true e = rw (eqb-true (getD index (576 + p) 0) 0 e, bit-zero k) (sym (and-false (ltb 0 (m p))))
-      go p false e = refl
-
   -- The functions of the transitions that fired are the executed ones.
   pub functions-are : (F : ℕ → Bool) (k : ℕ) → k < 64 → some 64 (λ t. F t && bit (getD index (704 + t) 0) k) ≡ executed tb F k
   unfolding executed every
   functions-are F k h = union-is 7 7 k F (omega arith) h refl
-
-  -- The 24 bytes of the three sets are the report of the cycle.
-  pub written : (m : ℕ → ℕ) (F : ℕ → Bool) (tokens : List ℕ) (fired actions functions : ℕ)
-      → fired < 2 ^ 64 → actions < 2 ^ 64 → functions < 2 ^ 64
-      → ((p : ℕ) → p < 128 → getD tokens p 0 ≡ m p) → ((t : ℕ) → t < 64 → bit fired t ≡ F t)
-      → ((k : ℕ) → k < 64 → bit actions k ≡ some 128 (λ p. ltb 0 (getD tokens p 0) && bit (getD index (576 + p) 0) k))
-      → ((k : ℕ) → k < 64 → bit functions k ≡ some 64 (λ t. bit fired t && bit (getD index (704 + t) 0) k))
-      → bytes 8 fired ++ bytes 8 actions ++ bytes 8 functions ≡ record-of tb m F
-  unfolding record-of
-  written m F tokens fired actions functions hf ha hx holds is-fired a x =
-      let e = bits-of fired F hf is-fired in
-      let f = bits-of actions (active tb m) ha
-      (λ k h. a k h ∙ some-same 128 _ _ (λ p l. ap (λ (n : ℕ). ltb 0 n && bit (getD index (576 + p) 0) k) (holds p l)) ∙ actions-are m k h) in
-      let g = bits-of functions (executed tb F) hx
-      (λ k h. x k h ∙ some-same 64 _ _ (λ t l. ap (λ (b : Bool). b && bit (getD index (704 + t) 0) k) (is-fired t l)) ∙ functions-are F k h) in
-      cc

@@ -36,6 +36,14 @@ module _ (a k b : ℕ) (rest : (j : ℕ) → bit b j ≡ (bit a j && not (eqb k 
       let same : b ≡ a - 2 ^ k = same-set b (a - 2 ^ k) l (omega arith) (λ j _. rest j ∙ sym (bit-less k a j e)) in
       omega (arith, pow-pos k)
 
+  -- What holds of all that are out of a, and of k, holds of all that are out of b.
+  pub out-more : (P : ℕ → Type 0) → ((j : ℕ) → bit a j ≡ false → P j) → P k → (j : ℕ) → bit b j ≡ false → P j
+  out-more P out here j z = go (eqb k j) refl
+    where
+      go : (x : Bool) → eqb k j ≡ x → P j
+      go true y = rw (← eqb-true k j y) here
+      go false y = out j (sym (and-true (bit a j)) ∙ sym (rw y at (rest j)) ∙ z)
+
   -- Row k takes what it is to take: what each row has or is to take stays the same.
   pub added : (rows : List ℕ) (v : ℕ) (q : ℕ → Bool) → k < length rows → bit a k ≡ true
       → ((j : ℕ) → bit v j ≡ (bit (getD rows k 0) j || q j)) → (t j : ℕ) → due (set rows k v) b q t j ≡ due rows a q t j

@@ -20,6 +20,14 @@ pub fn with(s: u64, k: usize) -> u64
     if k < 64 { s | (1 << k) } else { s }
 }
 
+// k alone.
+pub fn single(k: usize) -> u64
+    requires { ⌜ k < 64 ⌝ }
+    ensures { λ r. ⌜ ((j : ℕ) → bit r j ≡ eqb k j) ⌝ }
+{
+    1 << k
+}
+
 // All that is in s or in t.
 pub fn union(s: u64, t: u64) -> u64
     ensures { λ r. ⌜ ((j : ℕ) → bit r j ≡ (bit s j || bit t j)) ⌝ }

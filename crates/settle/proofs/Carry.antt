@@ -19,8 +19,7 @@ use Rattle.places.specs.Set.{has}
 use Rattle.net.specs.Rows.{Weights, Sorts, cell}
 use Rattle.table.proofs.Carry.{Clean}
 use Rattle.table.proofs.Rows.{beq-true}
-use Rattle.enabled.specs.declared.Inputs.{Inputs}
-use Rattle.enabled.specs.Inputs.{Inputs-of, in-words}
+use Rattle.enabled.specs.Inputs.{Inputs, Inputs-of, in-words}
 use Rattle.enabled.specs.Held.{Sorted}
 use Rattle.enabled.proofs.Carry.{Arc, cell-of, by-arc, in-row}
 use Rattle.settle.specs.Settle.{Starves}
@@ -35,12 +34,12 @@ module _ (tb : Table) (w s : List (List ℕ)) (index : List ℕ) (x : Inputs) (g
     (arcs : (r : ℕ) → r < tb .records → tb .kind r ≡ 3 → (tb .one r < 128) × (tb .two r < 64) × (1 ≤ tb .four r) × (tb .sort r ≤ 3))
     (single : (r q : ℕ) → r < tb .records → q < tb .records → tb .kind r ≡ 3 → tb .kind q ≡ 3 → tb .sort r < 3 → tb .sort q < 3
     → tb .one r ≡ tb .one q → tb .two r ≡ tb .two q → r ≡ q) (t : ℕ) (ht : t < 64) where
-  pub starves-same : (m taken plain curbs most : List ℕ) (at : Places) (r : ℕ) → Sorted index w s plain curbs most → Starves m at taken plain w r
+  pub starves-same : (m taken plain curbs : List ℕ) (at : Places) (r : ℕ) → Sorted index s plain curbs → Starves m at taken plain w r
       → (F : ℕ → Bool) → ((p : ℕ) → p < 128 → getD taken p 0 ≡ withdrawn tb F p) → ((p : ℕ) → p < 128 → has at p ≡ false → getD taken p 0 ≡ 0)
       → bit r t ≡ starved tb (λ p. getD m p 0) F t
   unfolding starved
-  starves-same m taken plain curbs most at r sorted starves F out none =
-      starves .holds t ∙ some-same 128 _ _ (λ p h. near p h (has at p) refl)
+  starves-same m taken plain curbs at r sorted starves F out none =
+      starves .holds t ht ∙ some-same 128 _ _ (λ p h. near p h (has at p) refl)
       ∙ by-arc tb w s index x gw gs clean gx arcs single t ht by-cell by-table same is-arc
     where
       less : ℕ → Bool

@@ -19,14 +19,10 @@ use Rattle.meaning.proofs.Shows.{Shows, up-to-1}
 use Rattle.meaning.proofs.Same.{of-kind, shown-place, shown-transition}
 use Rattle.meaning.proofs.Faults.{faultless}
 use Rattle.table.specs.declared.Pass.{Pass}
-use Rattle.table.specs.Index.{row, Indexed, Scanned, has-place, has-transition, unknown-test, names-unknown-at, none-of, lone}
+pub use Rattle.table.specs.Index.{Clean}
+use Rattle.table.specs.Index.{row, Scanned, has-place, has-transition, unknown-test, names-unknown-at, none-of, lone}
 use Rattle.table.proofs.Rows.{base, width, kind-of, Spot, spot, one-low, two-low, row-test, within, beq-true, class-is}
 use Rattle.table.proofs.Firsts.{arc-bit}
-
--- No record has a fault, and the rows hold them all.
-pub record Clean (tb : Table) (rows : List ℕ) : Type 0 where
-  pub fine : (r : ℕ) → r < tb .records → fault tb r ≡ 0
-  pub index : Indexed tb (tb .records) rows
 
 -- ON TESTS
 

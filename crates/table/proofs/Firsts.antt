@@ -19,6 +19,7 @@ use Rattle.sets.proofs.Bits.{zero-set}
 use Rattle.records.specs.declared.Rec.{Rec}
 use Rattle.records.specs.Record.{Reads}
 use Rattle.table.specs.Index.{Reaches, transitions-below, has-transition, unknown-test, names-unknown, names-unknown-at, none-of, lone}
+pub use Rattle.table.specs.Index.{arc-bit}
 
 -- What holds below i and at i holds below i + 1, where a test fails.
 pub none-more : (i : ℕ) (p : ℕ → Bool) → ((k : ℕ) → k < i → p k ≡ false) → p i ≡ false → (k : ℕ) → k < i + 1 → p k ≡ false
@@ -124,10 +125,6 @@ none-first rows n m reach few a b p q =
         sym (first-none 2 (none-of rows) (none-more 1 (none-of rows) (none-more 0 (none-of rows) (none-yet (none-of rows)) (sym e)) (sym f)))
 
 -- IS ONE ALONE
-
--- The arcs between place p and transition t.
-abbrev pub arc-bit : List ℕ → ℕ → ℕ → Bool
-arc-bit rows p t = bit (getD rows (192 + p) 0) t || bit (getD rows (320 + p) 0) t
 
 -- A place is alone if its row has its bit and the two rows of its arcs are empty.
 pub lone-place : (rows : List ℕ) (p arcs : ℕ) → p < 128 → arcs < 2 ^ 64 → ((t : ℕ) → bit arcs t ≡ arc-bit rows p t)

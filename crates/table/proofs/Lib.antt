@@ -3,4 +3,5 @@ pub mod Rows
 pub mod Passed
 pub mod Firsts
 pub mod Carry
+pub mod Known
 pub mod Reach

@@ -9,13 +9,16 @@ use native.Mathlib.Numerals.{add-one}
 use native.Mathlib.Omega.{arith}
 use lib.Dec.{eqb, ltb}
 use lib.ListN.{length, getD, set, replicate, length-set, length-replicate, getD-replicate}
-use borrow.Author.Tests.{lt-ltb, le-ltb, ne-eqb}
+use borrow.Author.Tests.{lt-ltb, le-ltb, eqb-true, eq-eqb, ne-eqb}
+use Rattle.meaning.specs.Below.{some}
 use Rattle.meaning.specs.Bytes.{bit}
+use Rattle.meaning.specs.Says.{Shown}
 use Rattle.meaning.specs.Table.{Table, table}
 use Rattle.meaning.specs.Defined.{bad-kind, bad-field, interval, twice, fault, faulty}
-use Rattle.meaning.proofs.Below.{last, first-is, first-none}
+use Rattle.meaning.proofs.Bool.{and-left, and-right, and-true, same-test}
+use Rattle.meaning.proofs.Below.{last, some-intro, some-elim, first-is, first-none}
 use Rattle.meaning.proofs.Shows.{Shows, shows}
-use Rattle.meaning.proofs.Same.{shown-kind}
+use Rattle.meaning.proofs.Same.{of-kind, shown-kind, shown-transition}
 use Rattle.meaning.proofs.Faults.{faultless}
 use Rattle.records.specs.declared.Rec.{Rec}
 use Rattle.records.specs.Record.{Reads, alone, interval-of, fault-of}
@@ -152,6 +155,26 @@ module _ {tb : Table} {n : ℕ} {rows : List ℕ} {high r q y : ℕ} (z : Step t
   pub row-there : q < 768
   row-there = omega (arith, row-is, row-low tb r shown)
 
+  -- Its byte 2 is below 64; whoever is alone in a set meets its row exactly if the bit is set.
+  pub two-there : y < 64
+  two-there = omega (arith, two-is, two-low shown)
+
+  pub bit-met : (alone : ℕ) → ((j : ℕ) → bit alone j ≡ eqb y j) → some 64 (λ k. bit (getD rows q 0) k && bit alone k) ≡ bit (getD rows q 0) y
+  bit-met alone is =
+      same-test (some 64 (λ k. bit (getD rows q 0) k && bit alone k)) (bit (getD rows q 0) y)
+      (λ e.
+      let w = some-elim 64 (λ k. bit (getD rows q 0) k && bit alone k) e in
+      let here : y ≡ w .0 = eqb-true y (w .0) (sym (is (w .0)) ∙ and-right (bit (getD rows q 0) (w .0)) (bit alone (w .0)) (w .2)) in
+      ap (bit (getD rows q 0)) here ∙ and-left (bit (getD rows q 0) (w .0)) (bit alone (w .0)) (w .2))
+      (λ e. some-intro 64 (λ k. bit (getD rows q 0) k && bit alone k) y two-there (and-true e (is y ∙ eq-eqb y y refl)))
+
+  -- Its numbers are in range for its kind.
+  pub in-range : (tb .one r < 128) × (tb .kind r ≡ 2 → tb .one r < 64) × (tb .kind r ≡ 4 → tb .sort r ≤ 1)
+  in-range = (one-low shown, λ e. omega (arith, shown-transition (of-kind tb r 2 shown e) .0), λ e. wanted (of-kind tb r 4 shown e))
+    where
+      wanted : {o t s f x : ℕ} → Shown 4 o t s f x → s ≤ 1
+      wanted (Shown.condition a b c) = c
+
   -- Its fault is whether its bit is set.
   bit-fault : fault tb r ≡ cond (bit (getD rows q 0) y) 4 0
   bit-fault =
@@ -165,7 +188,7 @@ module _ {tb : Table} {n : ℕ} {rows : List ℕ} {high r q y : ℕ} (z : Step t
 
   -- The next record.
   pub passed-one : (line one higher high′ : ℕ) → bit (getD rows q 0) y ≡ false
-      → ((j : ℕ) → bit line j ≡ (bit (getD rows q 0) j || (eqb y j && ltb y 64))) → one ≡ tb .one r → higher ≡ larger-of high one
+      → ((j : ℕ) → bit line j ≡ (bit (getD rows q 0) j || eqb y j)) → one ≡ tb .one r → higher ≡ larger-of high one
       → high′ ≡ larger-of higher y
       → Passed tb n (set rows q line) high′ (suc r)
   unfolding faulty top
@@ -182,6 +205,6 @@ module _ {tb : Table} {n : ℕ} {rows : List ℕ} {high r q y : ℕ} (z : Step t
             (omega (arith, two-is, two-low shown)));
         index =
             rw row-is
-            (add-record tb r rows line (z .kept .index) (omega (arith, z .kept .size, row-low tb r shown)) (two-low shown)
+            (add-record tb r rows line (z .kept .index) (omega (arith, z .kept .size, row-low tb r shown))
             (rw (row-is, two-is) at e));
       }

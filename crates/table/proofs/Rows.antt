@@ -172,11 +172,11 @@ module _ (tb : Table) (r : ℕ) (shown-r : Shows tb r) where
       some-same r _ _ (λ s l. same-row s (f s l)) ∙ sym (i .holds (row tb r) (tb .two r) row-low (two-low shown-r))
 
 -- The record that is added to its row is the one that the next index holds besides.
-pub add-record : (tb : Table) (r : ℕ) (rows : List ℕ) (line : ℕ) → Indexed tb r rows → row tb r < length rows → tb .two r < 64
-    → ((j : ℕ) → bit line j ≡ (bit (getD rows (row tb r) 0) j || (eqb (tb .two r) j && ltb (tb .two r) 64)))
+pub add-record : (tb : Table) (r : ℕ) (rows : List ℕ) (line : ℕ) → Indexed tb r rows → row tb r < length rows
+    → ((j : ℕ) → bit line j ≡ (bit (getD rows (row tb r) 0) j || eqb (tb .two r) j))
     → Indexed tb (suc r) (set rows (row tb r) line)
 unfolding some
-add-record tb r rows line i h l e = record { holds = λ q y m n. go q y m n (eqb (row tb r) q) refl }
+add-record tb r rows line i h e = record { holds = λ q y m n. go q y m n (eqb (row tb r) q) refl }
   where
     go : (q y : ℕ) → q < 768 → y < 64 → (b : Bool) → eqb (row tb r) q ≡ b
         → bit (getD (set rows (row tb r) line) q 0) y ≡ some (suc r) (λ k. eqb (row tb k) q && eqb (tb .two k) y)
@@ -186,7 +186,7 @@ add-record tb r rows line i h l e = record { holds = λ q y m n. go q y m n (eqb
         ap (λ (x : ℕ). bit (getD (set rows (row tb r) line) x 0) y) (sym here)
         ∙ ap (λ (x : ℕ). bit x y) (getD-set-same rows (row tb r) line 0 h)
         ∙ e y
-        ∙ rw (old, t, lt-ltb (tb .two r) 64 l, mathlib.Core.Bool.and-true (eqb (tb .two r) y))
+        ∙ rw (old, t)
     go q y m n false t =
         ap (λ (x : ℕ). bit x y) (getD-set-other rows (row tb r) q line 0 (λ x. eqb-false (row tb r) q t (sym x)))
         ∙ i .holds q y m n

@@ -1,5 +1,5 @@
 -- The index: a row of 64 bits for each kind and byte 1, with input and post arcs apart; bit y of a row is a record with byte 2 at y.
-use mathlib.Core.Bool.{Bool, false, cond, not, _&&_, _||_}
+use mathlib.Core.Bool.{Bool, true, false, cond, not, _&&_, _||_}
 use mathlib.Core.List.{List, [], _∷_}
 use mathlib.Core.Path.{_≡_}
 use Prim.Native.Nat.{ℕ, zero, suc, _+_, _-_, _≤_, _<_}
@@ -11,6 +11,7 @@ use Rattle.meaning.specs.Table.{Table}
 use Rattle.meaning.specs.Defined.{fault, faulty}
 use Rattle.records.specs.declared.Rec.{Rec}
 use Rattle.table.specs.declared.Pass.{Pass}
+use Rattle.table.specs.declared.Named.{Named}
 
 -- The first row of each kind's block, the post arcs' left aside.
 abbrev pub plain-blocks : List ℕ
@@ -46,6 +47,11 @@ pub record Scanned (tb : Table) (s : Pass) (rows : List ℕ) : Type 0 where
   pub number : s .number ≡ cond (ltb (s .at) (tb .records)) (fault tb (s .at)) 0
   pub reach : s .reach ≡ suc (top tb (s .at))
   pub index : Indexed tb (s .at) rows
+
+-- No record has a fault, and the rows hold them all.
+pub record Clean (tb : Table) (rows : List ℕ) : Type 0 where
+  pub fine : (r : ℕ) → r < tb .records → fault tb r ≡ 0
+  pub index : Indexed tb (tb .records) rows
 
 -- THE EIGHT CLASSES OF RECORDS: places, transitions, input arcs, post arcs, conditions, priorities, actions, functions
 
@@ -86,6 +92,26 @@ names-unknown rows x = unknown-test rows (x .kind) (x .one) (x .two)
 
 unfoldable pub names-unknown-at : Table → List ℕ → ℕ → Bool
 names-unknown-at tb rows k = unknown-test rows (tb .kind k) (tb .one k) (tb .two k)
+
+-- The arcs between place p and transition t; and that row u of the priorities has t.
+abbrev pub arc-bit : List ℕ → ℕ → ℕ → Bool
+arc-bit rows p t = bit (getD rows (192 + p) 0) t || bit (getD rows (320 + p) 0) t
+
+abbrev pub prior : List ℕ → ℕ → ℕ → Bool
+prior rows u t = bit (getD rows (512 + u) 0) t
+
+-- The rows that name place p have y; those that name transition t by their byte 1.
+abbrev pub names-place : List ℕ → ℕ → ℕ → Bool
+names-place rows p y = arc-bit rows p y || bit (getD rows (576 + p) 0) y
+
+abbrev pub names-transition : List ℕ → ℕ → ℕ → Bool
+names-transition rows t y = bit (getD rows (448 + t) 0) y || prior rows t y || bit (getD rows (704 + t) 0) y
+
+-- Where the answer is yes: whichever of the first m is named is there, and the transitions have those of `before` and all that is added.
+pub record Knows (there : ℕ → Bool) (named added : ℕ → ℕ → Bool) (m before : ℕ) (r : Named) : Type 0 where
+  pub known : r .known ≡ true → (x y : ℕ) → x < m → y < 64 → named x y ≡ true → there x ≡ true
+  pub holds : r .known ≡ true → (x y : ℕ) → x < m → y < 64 → added x y ≡ true → bit (r .transitions) y ≡ true
+  pub keeps : r .known ≡ true → (y : ℕ) → bit before y ≡ true → bit (r .transitions) y ≡ true
 
 -- 6: candidate 0, the index has no place; candidate 1, it has no transition.
 unfoldable pub none-of : List ℕ → ℕ → Bool

@@ -1,20 +1,20 @@
-// A table's records in one pass (answers 2, 3 and 4), kept in an index of 768 rows of 64 bits; and what the index tells (answers 5, 6 and 7).
+// The index of a table: where each record is kept, in 768 rows of 64 bits; and what the index tells (answers 5, 6 and 7).
 use records::Rec;
 ghost use mathlib.Core.Path.{_≡_};
-ghost use mathlib.Core.Bool.{not, _&&_};
-ghost use Prim.Native.Nat.{_+_, _<_, _≤_};
+ghost use mathlib.Core.Bool.{true, false, not, _&&_};
+ghost use Prim.Native.Nat.{ℕ, _+_, _<_, _≤_};
 ghost use lib.Dec.{eqb};
-ghost use lib.ListN.{getD, replicate};
+ghost use lib.ListN.{getD};
 ghost use Rattle.meaning.specs.Below.{some, first};
 ghost use Rattle.meaning.specs.Bytes.{bit};
-ghost use Rattle.meaning.specs.Table.{table};
-ghost use Rattle.table.specs.Index.{plain-blocks, block, row-of, larger-of, Scanned, Reaches, transitions-below, has-transition, names-unknown, none-of, lone};
+ghost use Rattle.meaning.specs.Table.{Table, table};
+ghost use Rattle.table.specs.Index.{plain-blocks, block, row-of, larger-of, Clean, Reaches, transitions-below, has-place, has-transition, names-unknown, names-unknown-at, arc-bit, names-place, names-transition, prior, Knows, none-of, lone};
 
 // The first row of each kind's block: places, transitions, input arcs, conditions, priorities, actions, functions. Row 320 begins the post arcs.
 const BLOCK: [usize; 8] = [0, 0, 128, 192, 448, 512, 576, 704];
 
 // The blocks, made once for all records of a table.
-fn blocks() -> [usize; 8]
+pub fn blocks() -> [usize; 8]
     ensures { λ r. ⌜ r ≡ plain-blocks ⌝ }
 {
     BLOCK
@@ -39,7 +39,7 @@ fn start(kind: u8, sort: u8, blocks: &[usize; 8]) -> usize
 }
 
 // The row of the index in which a record is kept, by its kind, its byte 1 and, of an arc, whether it is a post arc.
-fn row(x: Rec, blocks: &[usize; 8]) -> usize
+pub fn row(x: Rec, blocks: &[usize; 8]) -> usize
     requires { ⌜ now blocks ≡ plain-blocks ⌝ }
     ensures { λ r. ⌜ r ≡ row-of x ⌝ }
 {
@@ -51,63 +51,18 @@ fn row(x: Rec, blocks: &[usize; 8]) -> usize
 }
 
 // The larger of two numbers.
-fn larger(a: usize, b: usize) -> usize
+pub fn larger(a: usize, b: usize) -> usize
     ensures { λ r. ⌜ r ≡ larger-of a b ⌝ }
 {
     if a < b { b } else { a }
 }
 
-// What the pass found: at the first record that meets 2, 3 or 4 its number, else number 0 and at the number of records; and one
+// What a pass over the records finds: at the first record that meets 2, 3 or 4 its number, else number 0 and at the number of records; and one
 // more than the highest byte 1 or byte 2 of the records before it.
 pub struct Pass {
     pub number: u8,
     pub at: usize,
     pub reach: usize,
-}
-
-// Each record in order is tested for 2, 3 and 4; one that says what an earlier one said finds its bit set. The rows are lent empty, and hold
-// the records before the one at which the pass ends.
-pub fn scan(t: &[u8], rows: &mut [u64; 768]) -> Pass
-    requires { ⌜ now rows ≡ replicate 768 0 ⌝ }
-    ensures { λ s. ⌜ Scanned (table (now (t .entry))) s (now (rows .exit)) ⌝ }
-{
-    let n = t.len() / 8;
-    let kinds = records::kinds();
-    let blocks = blocks();
-    let mut top = 0;
-    let mut r = 0;
-    while r < n {
-        let x = records::read(t, r);
-        let f = records::fault(x, &kinds);
-        if f != 0 {
-            let reach = top + 1;
-            return Pass {
-                number: f,
-                at: r,
-                reach,
-            };
-        }
-        let q = row(x, &blocks);
-        let two = records::wide(x.two);
-        let line = rows[q];
-        if sets::has(line, two) {
-            let reach = top + 1;
-            return Pass {
-                number: 4,
-                at: r,
-                reach,
-            };
-        }
-        rows[q] = sets::with(line, two);
-        top = larger(larger(top, records::wide(x.one)), two);
-        r += 1;
-    }
-    let reach = top + 1;
-    Pass {
-        number: 0,
-        at: n,
-        reach,
-    }
 }
 
 // Of the numbers below n, how many a transition can have: n, but no more than 64.
@@ -125,8 +80,19 @@ fn lacks(rows: &[u64; 768], q: usize) -> bool
     !sets::has(rows[q], 0)
 }
 
+// Is something named of which the row lacks its bit 0?
+fn lost(line: u64, named: u64) -> bool
+    ensures { λ r. ⌜ r ≡ (not (bit line 0) && not (eqb named 0)) ⌝ }
+{
+    if sets::has(line, 0) {
+        false
+    } else {
+        named != 0
+    }
+}
+
 // Does the record name a place or a transition that the index does not have?
-pub fn unknown(x: Rec, rows: &[u64; 768]) -> bool
+fn unknown(x: Rec, rows: &[u64; 768]) -> bool
     ensures { λ r. ⌜ r ≡ names-unknown (now (rows .entry)) x ⌝ }
 {
     let kind = x.kind;
@@ -154,6 +120,117 @@ pub fn unknown(x: Rec, rows: &[u64; 768]) -> bool
         return lacks(rows, 128 + one);
     }
     false
+}
+
+// What the index names: whether all of it is declared, as far as it was asked, and the transitions to be asked for.
+struct Named {
+    known: bool,
+    transitions: u64,
+}
+
+// Has every place that an arc or an action names its bit 0? The transitions are those that the arcs name. None is at n or past it.
+fn places_known(rows: &[u64; 768], n: usize) -> Named
+    requires { ⌜ Reaches (now rows) n ⌝ }
+    ensures { λ r. ⌜ Knows (has-place (now (rows .entry))) (names-place (now (rows .entry))) (arc-bit (now (rows .entry))) 128 0 r ⌝ }
+{
+    let mut named: u64 = 0;
+    let mut p = 0;
+    while p < n {
+        let arcs = sets::union(rows[192 + p], rows[320 + p]);
+        if lost(rows[p], sets::union(arcs, rows[576 + p])) {
+            return Named {
+                known: false,
+                transitions: 0,
+            };
+        }
+        named = sets::union(named, arcs);
+        p += 1;
+    }
+    Named {
+        known: true,
+        transitions: named,
+    }
+}
+
+// Has every transition with a condition, a priority or a function its bit 0? The transitions are those of `before` and those below in a priority.
+// None is at n or past it.
+fn transitions_known(rows: &[u64; 768], before: u64, n: usize) -> Named
+    requires { ⌜ Reaches (now rows) n ⌝ }
+    ensures { λ r. ⌜ Knows (has-transition (now (rows .entry))) (names-transition (now (rows .entry))) (prior (now (rows .entry))) 64 before r ⌝ }
+{
+    let most = transitions(n);
+    let mut named = before;
+    let mut t = 0;
+    while t < most {
+        let below = rows[512 + t];
+        if lost(
+            rows[128 + t],
+            sets::union(sets::union(rows[448 + t], below), rows[704 + t]),
+        ) {
+            return Named {
+                known: false,
+                transitions: 0,
+            };
+        }
+        named = sets::union(named, below);
+        t += 1;
+    }
+    Named {
+        known: true,
+        transitions: named,
+    }
+}
+
+// Is each of these transitions in the index?
+fn declared(rows: &[u64; 768], set: u64) -> bool
+    ensures { λ r. ⌜ (r ≡ true → (t : ℕ) → t < 64 → bit set t ≡ true → has-transition (now (rows .entry)) t ≡ true) ⌝ }
+{
+    let mut left = set;
+    while left != 0 {
+        let t = sets::lowest(left);
+        if lacks(rows, 128 + t) {
+            return false;
+        }
+        left = sets::rest(left);
+    }
+    true
+}
+
+// Does the index itself show that no record names an unknown? None is at n or past it.
+fn all_known(rows: &[u64; 768], n: usize) -> bool
+    requires { ⌜ Reaches (now rows) n ⌝ }
+    ensures { λ r. ⌜ ((tb : Table) → Clean tb (now (rows .entry)) → r ≡ true → (k : ℕ) → k < tb .records → names-unknown-at tb (now (rows .entry)) k ≡ false) ⌝ }
+{
+    let places = places_known(rows, n);
+    if !places.known {
+        return false;
+    }
+    let others = transitions_known(rows, places.transitions, n);
+    if !others.known {
+        return false;
+    }
+    declared(rows, others.transitions)
+}
+
+// The first record that names an unknown, or the number of records. The records are searched only where the index does not show that there is none;
+// it goes no further than n.
+pub fn first_unknown(t: &[u8], rows: &[u64; 768], n: usize) -> usize
+    requires { ⌜ Clean (table (now t)) (now rows) ⌝ }
+    requires { ⌜ Reaches (now rows) n ⌝ }
+    ensures { λ r. ⌜ r ≡ first (table (now (t .entry)) .records) (names-unknown-at (table (now (t .entry))) (now (rows .entry))) ⌝ }
+{
+    let count = t.len() / 8;
+    if all_known(rows, n) {
+        return count;
+    }
+    let mut r = 0;
+    while r < count {
+        if unknown(records::read(t, r), rows) {
+            return r;
+        }
+        r += 1;
+    }
+    count
 }
 
 // Do all these rows lack their bit 0?

@@ -1,6 +1,7 @@
 -- From the timings to the meaning: a transition is declared once at most, so the last record that declares it is the one that the sum over
 -- all such records counts.
 use mathlib.Core.Bool.{true, false}
+use mathlib.Core.List.{List}
 use mathlib.Core.Logic.{⊎-elim}
 use mathlib.Core.Path.{_≡_, sym, _∙_}
 use Prim.Native.Nat.{ℕ, _≤_, _<_}
@@ -14,10 +15,16 @@ use Rattle.meaning.proofs.Bool.{either, and-left, and-right, and-true, not-both
 use Rattle.meaning.proofs.Below.{some-elim, none-elim}
 use Rattle.meaning.proofs.Reflect.{not-true-false}
 use Rattle.meaning.proofs.Sound.{Sound-table, declared-none, transition-column, transition-once}
+use Rattle.net.specs.Grow.{Told}
 use Rattle.net.specs.Rows.{latest}
 use Rattle.net.proofs.Carry.{latest-is, latest-none}
 use Rattle.timing.specs.declared.Intervals.{Intervals}
 use Rattle.timing.specs.Times.{declares, Times-of}
+
+-- What is told of all records is their timings.
+pub times-of : {tb : Table} {sorts a b : List ℕ} → Told tb (tb .sort) (tb .records) sorts → Told tb (tb .four) (tb .records) a
+    → Told tb (tb .six) (tb .records) b → Times-of tb (record { sorts = sorts; a = a; b = b })
+times-of s a b = record { sorts = s .holds; a = a .holds; b = b .holds }
 
 module _ (tb : Table) (sound : Sound-table tb) where
   -- A column of the last record that declares a transition is that column of the one that does.

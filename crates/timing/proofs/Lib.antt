@@ -1,3 +1,2 @@
--- What the proof of the pass shares, and the laws that carry the timings to the meaning.
-pub mod Step
+-- The laws that carry the timings to the meaning.
 pub mod Carry

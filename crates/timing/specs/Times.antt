@@ -1,16 +1,11 @@
 -- Each array holds one column of the records that declare the transitions.
-use mathlib.Core.Bool.{Bool, _&&_}
 use mathlib.Core.Path.{_≡_}
 use Prim.Native.Nat.{ℕ, _<_}
-use lib.Dec.{eqb}
 use lib.ListN.{getD}
-use Rattle.meaning.specs.Table.{Table, is}
+use Rattle.meaning.specs.Table.{Table}
+pub use Rattle.net.specs.Grow.{declares}
 use Rattle.net.specs.Rows.{latest}
 use Rattle.timing.specs.declared.Intervals.{Intervals}
-
--- Record r declares transition t.
-abbrev pub declares : Table → ℕ → ℕ → Bool
-declares tb t r = is tb 2 r && eqb (tb .one r) t
 
 pub record Times-of (tb : Table) (x : Intervals) : Type 0 where
   pub sorts : (t : ℕ) → t < 64 → getD (x .sorts) t 0 ≡ latest (tb .records) (declares tb t) (tb .sort)

@@ -1,79 +1,107 @@
 -- `course` meets its contract: with no words nothing is done; else the rows are those of the table, the cycles leave the trace, and the image of its
 -- last state is written.
-use mathlib.Core.Path.{refl, sym, _∙_}
+use mathlib.Core.Path.{refl, _∙_}
 use Prim.Native.Nat.{ℕ}
 use native.Mathlib.Omega.{arith}
 use lib.ListN.{length-replicate}
-use Rattle.table.proofs.Firsts.{few-transitions}
-use Rattle.priority.specs.Closed.{Bare}
-use Rattle.course.proofs.Rows.{net-of, timeless, unasked}
-use Rattle.course.proofs.Turns.{no-words}
 use borrow.Author.Needs.{needs}
+use Rattle.table.proofs.Firsts.{few-transitions}
+use Rattle.course.proofs.Rows.{net-of, timeless, unasked, unranked}
+use Rattle.course.proofs.Turns.{no-words}
 use Rattle.course.proofs.course.Statement.{statement}
 use Rattle.course.proofs.course.Tie as tie
 
 returns : tie.Need-returns
-returns c = no-words _ _ _ _ (c .before .before .before .before .before .pre .0 .sound) (c .before .before .before .before .before .pre .1) (c .if1 .taken)
+returns c =
+    let start = c .before .before .before .before .before in
+    no-words _ _ _ _ (start .pre .0 .sound) (start .pre .1 .1 .1) (c .if1 .taken)
 
-chains-requires : tie.Need-chains-requires
-chains-requires c κs = (c .before .before .before .before .before .before .before .before .pre .0 .sound, (refl, (refl, length-replicate {A = ℕ} 1024 0)))
+lay-arcs-requires : tie.Need-lay-arcs-requires
+lay-arcs-requires c κs =
+    let pre = c .before .before .before .before .before .before .before .before .before .before .before .before .pre in
+    (pre .0 .sound, (pre .1 .0, (pre .1 .1 .0, (refl, (refl, (length-replicate {A = ℕ} 1024 0, (refl, refl)))))))
 
 transitions-requires : tie.Need-transitions-requires
 transitions-requires c κs = search needs
 
--- The closed rows are empty past the transitions of the table.
-bare : (c : tie.After-transitions) → Bare (c .transitions .result) (c .before .before .before .before .before .before .before .before .before .before .args .above .now)
-bare c = rw (c .transitions .ensures) (c .before .before .before .before .before .before .before .before .before .before .pre .0 .bare)
+-- Where the call began, seen from where the transitions below the reach are counted.
+abbrev begun : tie.After-transitions → tie.Start
+begun c = c .before .before .before .before .before .before .before .before .before .before .before .before .before .before
 
 turn-requires : tie.Need-turn-requires
-turn-requires c κs = bare c
-
-lower-requires : tie.Need-lower-requires
-lower-requires c κs = bare (c .before)
+turn-requires c κs =
+    let counted = c .before in
+    (rw (counted .transitions .ensures) (begun counted .pre .0 .bare), refl)
 
 inputs-of-requires : tie.Need-inputs-of-requires
-inputs-of-requires c κs = c .before .before .before .before .before .before .before .before .before .before .before .before .pre .0 .reaches
+inputs-of-requires c κs = (begun (c .before .before .before .before) .pre .0 .reaches, (refl, refl))
+
+rivals-requires : tie.Need-rivals-requires
+rivals-requires c κs =
+    let turned = c .before .before .before .before .before .before .before in
+    let counted = turned .before .before in
+    (unranked (begun counted .pre .0) _ (counted .transitions .ensures) _ (turned .turn .ensures), refl)
 
 bound-requires : tie.Need-bound-requires
-bound-requires c κs = search needs
+bound-requires c κs = (search needs, begun (c .before .before .before .before .before .before .before .before .before .before .before) .pre .0 .reaches)
 
 sort-arcs-requires : tie.Need-sort-arcs-requires
-sort-arcs-requires c κs = ((refl, refl, length-replicate {A = ℕ} 128 0), c .before .before .before .bound .ensures)
+sort-arcs-requires c κs = ((refl, refl), c .before .before .before .bound .ensures)
 
 known-requires : tie.Need-known-requires
-known-requires c κs = c .before .before .before .before .before .before .before .before .before .before .before .before .before .before .before .before .before .before .before .before .pre .0 .reaches
+known-requires c κs = begun (c .before .before .before .before .before .before .before .before .before .before .before .before .before .before .before .before) .pre .0 .reaches
 
 timed-requires : tie.Need-timed-requires
-timed-requires c κs = (
-  omega (arith, c .before .before .before .before .before .before .before .before .before .before .before .transitions .ensures, few-transitions (c .before .before .before .before .before .before .before .before .before .before .before .before .before .before .before .before .before .before .before .before .before .args .reach)),
-  λ t l h. timeless (c .before .before .before .before .before .before .before .before .before .before .before .before .before .before .before .before .before .before .before .before .before .pre .0) _ (c .before .before .before .before .before .before .before .before .before .before .before .transitions .ensures) t l h .0,
-)
-
-acting-requires : tie.Need-acting-requires
-acting-requires c κs = c .before .before .before .before .before .before .before .before .before .before .before .before .before .before .before .before .before .before .before .before .before .before .pre .0 .reaches
+timed-requires c κs =
+    let counted = c .before .before .before .before .before .before .before .before .before .before .before .before .before .before .before .before .before in
+    let fewer = counted .transitions .ensures in
+    let start = begun counted in
+    (omega (arith, fewer, few-transitions (start .args .reach)), λ t l h. timeless (start .pre .0) _ fewer t l h .0)
 
 conditional-requires : tie.Need-conditional-requires
 conditional-requires c κs =
-    let read = c .before .before .before .before .before .before .before .before .before .before .before .before .before .before .before .before .before .before .before .before .before .before .before .before .before .pre .0 in
-    let few = c .before .before .before .before .before .before .before .before .before .before .before .before .before .before .before .transitions .ensures in
-    ((search needs, search needs), (unasked read _ few (read .truths-hold), unasked read _ few (read .falses-hold)))
+    let counted = c .before .before .before .before .before .before .before .before .before .before .before .before .before .before .before .before .before .before .before .before in
+    let fewer = counted .transitions .ensures in
+    let read = begun counted .pre .0 in
+    ((search needs, search needs), (unasked read _ fewer (read .truths-hold), unasked read _ fewer (read .falses-hold)))
 
 limits-requires : tie.Need-limits-requires
-limits-requires c κs = (
-  (refl, refl, omega (arith, c .before .before .before .before .before .before .before .before .before .before .before .before .before .before .before .before .before .before .before .before .before .before .before .before .transitions .ensures, few-transitions (c .before .before .before .before .before .before .before .before .before .before .before .before .before .before .before .before .before .before .before .before .before .before .before .before .before .before .before .before .before .before .before .before .before .before .args .reach))),
-  timeless (c .before .before .before .before .before .before .before .before .before .before .before .before .before .before .before .before .before .before .before .before .before .before .before .before .before .before .before .before .before .before .before .before .before .before .pre .0) _ (c .before .before .before .before .before .before .before .before .before .before .before .before .before .before .before .before .before .before .before .before .before .before .before .before .transitions .ensures),
-)
+limits-requires c κs =
+    let counted = c .before .before .before .before .before .before .before .before .before .before .before .before .before .before .before .before .before .before .before .before .before .before .before .before .before .before .before .before .before in
+    let fewer = counted .transitions .ensures in
+    let start = begun counted in
+    ((refl, refl, omega (arith, fewer, few-transitions (start .args .reach))), timeless (start .pre .0) _ fewer)
 
 cycles-requires : tie.Need-cycles-requires
 cycles-requires c κs =
-    let given = c .before .before .before .before .before .before .before .before .before .before .before .before .before .before .before .before .before .before .before .before .before .before .before .before .before .before .before .before .before .before .before .before .before .before .before .before .before .before .before .before .before .before .before .before .before .before .before .before .before .before .before .pre in (
-      net-of (given .0) _ (c .before .before .before .before .before .before .before .before .before .before .before .before .before .before .before .before .before .before .before .before .before .before .before .before .before .before .before .before .before .before .known .ensures) _ (c .before .before .before .before .before .before .before .before .before .before .before .before .before .before .before .before .before .before .before .before .before .before .before .before .before .before .before .before .before .timed .ensures) _ (c .before .before .before .before .before .before .before .before .before .before .before .before .before .before .before .before .before .before .before .before .before .before .before .before .before .conditional .ensures) _ (c .before .before .before .before .before .before .before .before .before .before .before .before .before .before .before .before .before .before .before .before .before .before .before .before .before .before .before .before .before .before .before .before .before .before .before .before .before .before .before .before .turn .ensures) _ (c .before .before .before .before .before .before .before .before .before .before .before .before .before .before .before .before .before .before .before .before .before .before .before .before .before .before .before .before .before .before .before .before .before .before .before .before .before .before .before .lower .ensures) _ (c .before .before .before .before .before .before .before .before .before .before .before .before .before .before .before .before .before .before .before .before .before .before .before .before .before .before .before .before .acting .ensures) _ (c .before .before .before .before .before .before .before .before .before .before .before .before .before .before .before .before .before .before .before .before .before .before .before .before .before .before .before .before .before .before .before .before .before .before .before .bound .ensures) _ _ (c .before .before .before .before .before .before .before .before .before .before .before .before .before .before .before .before .limits .ensures) _
-          (c .before .before .before .before .before .before .before .before .before .before .before .before .before .before .before .before .before .before .before .before .before .before .before .before .before .before .before .before .before .before .before .before .before .before .before .before .before .before .inputs-of .ensures) _ _ _ (c .before .before .before .before .before .before .before .before .before .before .before .before .before .before .before .before .before .before .before .before .before .before .before .before .before .before .before .before .before .before .before .sort-arcs .ensures) _ _ _ (c .before .before .before .before .before .before .before .before .before .before .before .before .before .before .before .before .before .before .before .before .before .before .before .before .before .before .before .before .before .before .before .before .before .before .before .before .before .before .before .before .before .before .chains .ensures .0) (c .before .before .before .before .before .before .before .before .before .before .before .before .before .before .before .before .before .before .before .before .before .before .before .before .before .before .before .before .before .before .before .before .before .before .before .before .before .before .before .before .before .before .chains .ensures .1),
-      given .1,
+    let limited = c .before .before .before .before .before .before .before .before .before .before .before .before .before .before .before .before .before .before .before .before .before in
+    let asked = limited .before .before .before .before .before .before .before .before .before in
+    let timed = asked .before .before .before in
+    let known = timed .before in
+    let sorted = known .before in
+    let bound = sorted .before .before .before .before in
+    let rivals = bound .before .before in
+    let inputs = rivals .before .before .before .before .before in
+    let turned = inputs .before .before .before in
+    let counted = turned .before .before in
+    let arcs = counted .before .lay-arcs .ensures in
+    let given = begun counted .pre in (
+      net-of (given .0) _ (known .known .ensures) _ (timed .timed .ensures) _ (asked .conditional .ensures) _ (turned .turn .ensures)
+          _ (bound .bound .ensures) _ _ (limited .limits .ensures) _ (inputs .inputs-of .ensures) _ _ (rivals .rivals2 .ensures)
+          _ _ (arcs .0 .0) (arcs .0 .1) _ _ (sorted .sort-arcs .ensures) _ _ _ _ _ (arcs .1 .0 .0) (arcs .1 .0 .1) (arcs .1 .1 .0),
+      (
+        arcs .1 .1 .1 .0,
+        (
+          arcs .1 .1 .1 .1,
+          (record { places = length-replicate {A = ℕ} 128 0; transitions = length-replicate {A = ℕ} 64 0 }, given .1 .1 .1),
+        ),
+      ),
     )
 
 keep-requires : tie.Need-keep-requires
-keep-requires c κs = (c .before .before .before .before .before .before .before .before .before .before .before .before .before .before .before .before .before .before .before .before .before .before .before .before .before .before .before .before .before .before .before .before .before .before .before .before .before .before .before .before .before .before .before .before .before .before .before .before .before .before .before .before .before .before .before .pre .1 .long, c .before .before .before .cycles .ensures .small)
+keep-requires c κs =
+    let done = c .before .before .before .before .before in
+    (begun (done .before .before .before .before .before .before .before .before .before .before .before .before .before .before .before .before .before .before .before .before .before .before .before .before .before .before .before .before .before .before .before .before .before .before .before .before .before .before .before .before .before .before .before .before .before .before .before .before .before .before .before .before) .pre .1 .1 .1 .long, done .cycles .ensures .small)
 
 same-length : tie.Need-same-length
 same-length c = search needs
@@ -83,24 +111,24 @@ same-length-2 c = search needs
 
 returns-2 : tie.Need-returns-2
 returns-2 c =
-    let halts = c .before .before .before .before .before .before .cycles .ensures in
-    record { answer-is = halts .answer-is; image-is = c .before .before .keep .ensures ∙ halts .image-is; report-is = halts .report-is }
+    let kept = c .before .before in
+    let halts = kept .before .before .before .before .before .before .cycles .ensures in
+    record { answer-is = halts .answer-is; image-is = kept .keep .ensures ∙ halts .image-is; report-is = halts .report-is }
 
 pub course-spec : {M : Type 1} → statement M
 course-spec =
     tie.close
     (tie.spec
     returns
-    chains-requires
+    lay-arcs-requires
     transitions-requires
     turn-requires
-    lower-requires
     inputs-of-requires
+    rivals-requires
     bound-requires
     sort-arcs-requires
     known-requires
     timed-requires
-    acting-requires
     conditional-requires
     limits-requires
     cycles-requires

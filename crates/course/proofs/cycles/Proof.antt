@@ -1,88 +1,94 @@
 -- `cycles` meets its contract: each turn is one step of the meaning's run.
 use mathlib.Core.Path.{_≡_, refl, sym, _∙_}
-use Prim.Native.Nat.{ℕ, _*_, _/_, _-_, _≤_}
+use Prim.Native.Nat.{ℕ, _+_, _*_, _/_, _-_, _≤_, _<_}
 use native.Mathlib.Numerals.{add-one}
 use native.Mathlib.Omega.{arith}
-use lib.ListN.{length, length-replicate}
+use lib.ListN.{length, getD, length-replicate}
 use borrow.Author.Needs.{needs}
 use Rattle.enabled.proofs.Held.{none-set}
 use Rattle.cycle.specs.Step.{Sized, Poised}
-use Rattle.cycle.proofs.Whole.{weighty}
 use Rattle.course.proofs.Turns.{At, begins, bursts, turned, finished, out-length}
 use Rattle.course.proofs.cycles.Statement.{statement}
 use Rattle.course.proofs.cycles.Tie as tie
 
 abbrev Inv-loop : tie.InvT-loop
-Inv-loop t image words report₀ known timed conditional lower acting n sorts a b limit last index higher w s takers low high plain curbs most takes puts next truths falses count tokens₀ counters₀ orders₀ held₀ taken₀ put₀ i₀ report tokens counters orders held taken put i =
+Inv-loop t image words report₀ tokens₀ counters₀ known timed conditional lower n gain sorts a b limit last index rivals w s takers low high plain curbs takes puts next near far truths falses count orders₀ held₀ shown₀ from₀ upto₀ before₀ taken₀ put₀ top₀ i₀ report tokens counters orders held shown from upto before taken put top i =
     (count ≡ length words / 8) × (i ≤ count) × At t image words report₀ i (record { tokens = tokens; counters = counters; orders = orders }) report
-    × Sized tokens counters × Poised index w s tokens held taken put
+    × Sized tokens counters × Poised index w s tokens held shown from upto taken put × (top ≤ 65535 + gain) × ((p : ℕ) → p < 128 → getD tokens p 0 ≤ top)
 
 abbrev μ-loop : tie.MeasureT-loop
-μ-loop t image words report₀ known timed conditional lower acting n sorts a b limit last index higher w s takers low high plain curbs most takes puts next truths falses count tokens₀ counters₀ orders₀ held₀ taken₀ put₀ i₀ report tokens counters orders held taken put i = count - i
+μ-loop t image words report₀ tokens₀ counters₀ known timed conditional lower n gain sorts a b limit last index rivals w s takers low high plain curbs takes puts next near far truths falses count orders₀ held₀ shown₀ from₀ upto₀ before₀ taken₀ put₀ top₀ i₀ report tokens counters orders held shown from upto before taken put top i = count - i
 
 load-requires : tie.Need-load-requires Inv-loop μ-loop
-load-requires c κs = search needs
+load-requires c κs =
+    let sized = c .before .before .before .before .before .before .pre .1 .1 .1 .0 in
+    (sized .places, sized .transitions)
 
 hold-requires : tie.Need-hold-requires Inv-loop μ-loop
 hold-requires c κs =
-    let net = c .before .before .before .before .before .before .before .before .before .pre .0 in
-    (refl, (net .arcs, (weighty _ _ _ _ _ _ _ _ _ _ _ _ _ _ _ _ _ _ _ _ _ _ _ _ _ net, net .within)))
-
--- The arrays that are read are whole.
-sizes : (c : tie.After-counters Inv-loop μ-loop) → Sized (c .before .before .load .result .tokens) (c .before .before .load .result .counters)
-sizes c = record { places = search needs; transitions = search needs }
+    let net = c .before .before .before .before .before .before .before .before .before .before .before .before .pre .0 in
+    let small = c .before .before .before .before .before .load .ensures .1 .0 in
+    ((refl, refl, refl, refl), (net .arcs, (net .within, λ p h. omega (arith, small .tokens p h))))
 
 loop-holds : tie.Need-loop-holds Inv-loop μ-loop
 loop-holds c =
-    let start = c .before .before .before .before .before .before .before .before .before .before in
-    let load = c .before .before .before .before .before .load in (
+    let start = c .before .before .before .before .before .before .before .before .before .before .before .before .before in
+    let load = c .before .before .before .before .before .before .load .ensures in (
       refl,
       omega arith,
-      begins _ _ _ _ (start .pre .0 .sound) (start .pre .1) _ (load .ensures .0) (load .ensures .1),
-      sizes (c .before .before .before),
+      begins _ _ _ _ (start .pre .0 .sound) (start .pre .1 .1 .1 .1) _ (load .0) (load .1 .0),
+      record { places = load .1 .1 .0; transitions = load .1 .1 .1 },
       record {
-        back = c .hold .ensures;
-        none-taken = record { size = length-replicate {A = ℕ} 128 0; none = λ p l. none-set p; tokens = load .ensures .1 .tokens };
-        none-put = record { size = length-replicate {A = ℕ} 128 0; none = λ p l. none-set p; tokens = load .ensures .1 .tokens };
+        levels = c .hold .ensures;
+        none-taken = record { size = length-replicate {A = ℕ} 128 0; none = λ p l. none-set p };
+        none-put = record { size = length-replicate {A = ℕ} 128 0; none = λ p l. none-set p };
       },
+      omega arith,
+      load .1 .0 .tokens,
     )
 
 word-requires : tie.Need-word-requires Inv-loop μ-loop
 word-requires c κs = omega arith
 
+ceiling-requires : tie.Need-ceiling-requires Inv-loop μ-loop
+ceiling-requires c κs =
+    let at = c .before .before .before .loop in
+    ((c .before .before .before .before .before .before .before .before .before .before .before .before .before .before .before .before .before .pre .1 .1 .0, at .inv .5), (at .inv .6, at .inv .2 .small .tokens))
+
 step-requires : tie.Need-step-requires Inv-loop μ-loop
 step-requires c κs =
-    let at = c .before .before .before .before .before .before .before .loop in
-    (c .before .before .before .before .before .before .before .before .before .before .before .before .before .before .before .before .before .before .pre .0, (at .inv .2 .small, (at .inv .3, at .inv .4)))
+    let at = c .before .before .before .before .before .before .before .before .before .before .before .before .before .loop in
+    let start = c .before .before .before .before .before .before .before .before .before .before .before .before .before .before .before .before .before .before .before .before .before .before .before .before .before .before .before in
+    (start .pre .0, (at .inv .2 .small, (at .inv .3, (at .inv .4, record { room = λ p h. rw (sym (start .pre .1 .0)) (c .before .before .before .before .before .before .before .before .before .ceiling .ensures .1 p h) }))))
 
 same-length : tie.Need-same-length Inv-loop μ-loop
 same-length c =
-    let at = c .before .before .before .before .before .before .before .before .before .loop in
-    let room = c .before .before .before .before .before .before .before .before .before .before .before .before .before .before .before .before .before .before .before .before .pre .1 .room in
+    let at = c .before .before .before .before .before .before .before .before .before .before .before .before .before .before .before .loop in
+    let room = c .before .before .before .before .before .before .before .before .before .before .before .before .before .before .before .before .before .before .before .before .before .before .before .before .before .before .before .before .before .pre .1 .1 .1 .1 .room in
     out-length _ _ _ _ (at .inv .2) (omega arith)
 
 returns : tie.Need-returns Inv-loop μ-loop
 returns c =
-    let given = c .before .before .before .before .before .before .before .before .before .before .before .before .before .before .before .before .before .before .before .before .pre in
-    let at = c .before .before .before .before .before .before .before .before .before .loop in
-    bursts _ _ _ _ (given .0 .sound) (given .1) _ _ _ (at .inv .2) (omega arith) _ (c .before .before .before .before .before .before .before .word .ensures) _ _ _ (c .before .step .ensures .0) (c .if1 .taken)
+    let given = c .before .before .before .before .before .before .before .before .before .before .before .before .before .before .before .before .before .before .before .before .before .before .before .before .before .before .before .before .before .pre in
+    let at = c .before .before .before .before .before .before .before .before .before .before .before .before .before .before .before .loop in
+    bursts _ _ _ _ (given .0 .sound) (given .1 .1 .1 .1) _ _ _ (at .inv .2) (omega (arith, c .before .before .before .before .before .before .before .before .before .before .before .before .before .before .loop-test .taken, at .inv .0)) _ (c .before .before .before .before .before .before .before .before .before .before .before .before .before .word .ensures) _ _ _ (c .before .step .ensures .0) (c .if1 .taken)
 
 mul-store : tie.Need-mul-store Inv-loop μ-loop
 mul-store c =
-    let few = c .before .before .before .before .before .before .before .before .before .before .before .before .before .before .before .before .before .before .before .before .before .pre .1 .few in
-    let at = c .before .before .before .before .before .before .before .before .before .before .loop in
+    let few = c .before .before .before .before .before .before .before .before .before .before .before .before .before .before .before .before .before .before .before .before .before .before .before .before .before .before .before .before .before .before .pre .1 .1 .1 .1 .few in
+    let at = c .before .before .before .before .before .before .before .before .before .before .before .before .before .before .before .before .loop in
     omega (arith, few, at .inv .0, at .inv .1)
 
 store-requires : tie.Need-store-requires Inv-loop μ-loop
 store-requires c κs =
-    let given = c .before .before .before .before .before .before .before .before .before .before .before .before .before .before .before .before .before .before .before .before .before .pre .1 in
-    let at = c .before .before .before .before .before .before .before .before .before .before .loop in
+    let given = c .before .before .before .before .before .before .before .before .before .before .before .before .before .before .before .before .before .before .before .before .before .before .before .before .before .before .before .before .before .before .pre .1 .1 .1 .1 in
+    let at = c .before .before .before .before .before .before .before .before .before .before .before .before .before .before .before .before .loop in
     omega (arith, given .room, at .inv .0, at .inv .1, out-length _ _ _ _ (at .inv .2) (omega arith), given .few)
 
 add-i : tie.Need-add-i Inv-loop μ-loop
 add-i c =
-    let few = c .before .before .before .before .before .before .before .before .before .before .before .before .before .before .before .before .before .before .before .before .before .before .before .before .pre .1 .few in
-    let at = c .before .before .before .before .before .before .before .before .before .before .before .before .before .loop in
+    let few = c .before .before .before .before .before .before .before .before .before .before .before .before .before .before .before .before .before .before .before .before .before .before .before .before .before .before .before .before .before .before .before .before .before .pre .1 .1 .1 .1 .few in
+    let at = c .before .before .before .before .before .before .before .before .before .before .before .before .before .before .before .before .before .before .before .loop in
     omega (arith, few, at .inv .0, at .inv .1)
 
 loop-less : tie.Need-loop-less Inv-loop μ-loop
@@ -90,29 +96,33 @@ loop-less c = omega arith
 
 loop-again : tie.Need-loop-again Inv-loop μ-loop
 loop-again c =
-    let stepped = c .before .before .before .before .before in
-    let at = c .before .before .before .before .before .before .before .before .before .before .before .before .before .loop in
-    let given = c .before .before .before .before .before .before .before .before .before .before .before .before .before .before .before .before .before .before .before .before .before .before .before .before .pre in (
+    let stepped = c .before .before .before .before .before .step .ensures in
+    let none = c .before .before .before .before .if1 .left in
+    let at = c .before .before .before .before .before .before .before .before .before .before .before .before .before .before .before .before .before .before .before .loop in
+    let more = c .before .before .before .before .before .before .before .before .before .before .before .before .before .before .before .before .before .before .loop-test .taken in
+    let given = c .before .before .before .before .before .before .before .before .before .before .before .before .before .before .before .before .before .before .before .before .before .before .before .before .before .before .before .before .before .before .before .before .before .pre in (
       refl,
-      omega arith,
+      omega (arith, more, at .inv .0),
       rw add-one
-          (turned _ _ _ _ (given .0 .sound) (given .1) _ _ _ (at .inv .2) (omega arith) _ (c .before .before .before .before .before .before .before .before .before .before .before .word .ensures) _ _ _ (stepped .step .ensures .0) (c .before .before .before .before .if1 .left) _ (c .before .before .store .ensures)),
-      stepped .step .ensures .0 .sized,
-      stepped .step .ensures .1 (c .before .before .before .before .if1 .left),
+          (turned _ _ _ _ (given .0 .sound) (given .1 .1 .1 .1) _ _ _ (at .inv .2) (omega (arith, more, at .inv .0)) _ (c .before .before .before .before .before .before .before .before .before .before .before .before .before .before .before .before .before .word .ensures) _ _ _ (stepped .0) none _ (c .before .before .store .ensures)),
+      stepped .0 .sized,
+      stepped .1 .0 none,
+      c .before .before .before .before .before .before .before .before .before .before .before .before .before .before .before .ceiling .ensures .0,
+      stepped .1 .1 none,
     )
 
 same-length-2 : tie.Need-same-length-2 Inv-loop μ-loop
 same-length-2 c =
     let at = c .before .loop in
-    let room = c .before .before .before .before .before .before .before .before .before .before .before .before .pre .1 .room in
+    let room = c .before .before .before .before .before .before .before .before .before .before .before .before .before .before .before .pre .1 .1 .1 .1 .room in
     out-length _ _ _ _ (at .inv .2) (omega arith)
 
 returns-2 : tie.Need-returns-2 Inv-loop μ-loop
 returns-2 c =
-    let given = c .before .before .before .before .before .before .before .before .before .before .before .before .pre in
+    let given = c .before .before .before .before .before .before .before .before .before .before .before .before .before .before .before .pre in
     let at = c .before .loop in
-    let all : at .i ≡ length (c .before .before .before .before .before .before .before .before .before .before .before .before .args .words .now) / 8 = omega arith in
-    finished _ _ _ _ (given .0 .sound) (given .1) _ _ (rw all at (at .inv .2))
+    let all : at .i ≡ length (c .before .before .before .before .before .before .before .before .before .before .before .before .before .before .before .args .words .now) / 8 = omega arith in
+    finished _ _ _ _ (given .0 .sound) (given .1 .1 .1 .1) _ _ (rw all at (at .inv .2))
 
 pub cycles-spec : {M : Type 1} → statement M
 cycles-spec =
@@ -124,6 +134,7 @@ cycles-spec =
     hold-requires
     loop-holds
     word-requires
+    ceiling-requires
     step-requires
     same-length
     returns

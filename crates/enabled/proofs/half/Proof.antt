@@ -1,7 +1,7 @@
 -- The loop keeps that the words have the places passed: each turn adds one place to the transitions of its row; and the rows from `count` on are
 -- empty.
 use mathlib.Core.Bool.{_&&_}
-use mathlib.Core.Path.{_≡_, refl, _∙_}
+use mathlib.Core.Path.{_≡_, ap, _∙_}
 use Prim.Native.Nat.{ℕ, _+_, _-_, _≤_, _<_}
 use native.Mathlib.Omega.{arith}
 use lib.Dec.{ltb}
@@ -21,7 +21,9 @@ abbrev μ-loop : tie.MeasureT-loop
 μ-loop index from count words₀ p₀ words p = count - p
 
 loop-holds : tie.Need-loop-holds Inv-loop μ-loop
-loop-holds c = (omega arith, refl, no-row (c .args .index .now) (c .args .from))
+loop-holds c =
+    let blank = c .pre .0 .2 in
+    (omega arith, ap length blank, rw blank (no-row (c .args .index .now) (c .args .from)))
 
 add-spread : tie.Need-add-spread Inv-loop μ-loop
 add-spread c = search needs

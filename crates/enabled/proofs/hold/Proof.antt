@@ -1,72 +1,93 @@
--- The loop keeps that each row passed has those that its place holds back, and that the others are empty.
-use mathlib.Core.Bool.{Bool, true, false, cond}
+-- The loop keeps that the rows passed span the tokens of their places, and that the others are as they were lent.
+use mathlib.Core.Bool.{Bool, true, false}
 use mathlib.Core.List.{List}
 use mathlib.Core.Path.{_≡_, refl, sym, ap, _∙_}
 use Prim.Native.Nat.{ℕ, _+_, _-_, _≤_, _<_}
 use native.Mathlib.Omega.{arith}
-use lib.Dec.{ltb}
-use lib.ListN.{length, getD, length-set, replicate, getD-replicate}
+use lib.Dec.{ltb, eqb}
+use lib.ListN.{length, getD, replicate, getD-replicate}
 use borrow.Author.Needs.{needs}
-use borrow.Author.Tests.{ltb-true, ltb-false, le-ltb}
-use Rattle.enabled.specs.Held.{held-by}
-use Rattle.enabled.proofs.Held.{bounded, row-held, none-held, row-on, none-set}
+use borrow.Author.Tests.{eqb-true, eqb-false, ltb-true, ltb-false}
+use Rattle.enabled.specs.Held.{Empty-from, Spans, Four, Moves-to, Levels}
+use Rattle.enabled.proofs.Held.{none-spans}
 use Rattle.enabled.proofs.hold.Statement.{statement}
 use Rattle.enabled.proofs.hold.Tie as tie
 
+-- The rows of place q span its tokens; or they are as they were lent.
+abbrev Spanned : List ℕ → List (List ℕ) → List (List ℕ) → List ℕ → List ℕ → List ℕ → List ℕ → List ℕ → ℕ → Type 0
+Spanned index w s m held shown from upto q =
+    Spans index w s q (getD held q 0) (getD shown q 0) (getD from q 0) (getD upto q 0) × (getD from q 0 ≤ getD m q 0) × (getD m q 0 < getD upto q 0)
+
+abbrev Lent : List ℕ → List ℕ → List ℕ → List ℕ → ℕ → Type 0
+Lent held shown from upto q = (getD held q 0 ≡ 0) × (getD shown q 0 ≡ 0) × (getD from q 0 ≡ 0) × (getD upto q 0 ≡ 4294967295)
+
+module _ {index : List ℕ} {w s : List (List ℕ)} (m : List ℕ) {held shown from upto held′ shown′ from′ upto′ : List ℕ} {p : ℕ}
+    (moves : Moves-to index w s p (getD m p 0) held shown from upto held′ shown′ from′ upto′) where
+  -- One more place is passed.
+  passed : ((q : ℕ) → q < p → Spanned index w s m held shown from upto q) → (q : ℕ) → q < p + 1 → Spanned index w s m held′ shown′ from′ upto′ q
+  passed before q h = go (eqb q p) refl
+    where
+      go : (b : Bool) → eqb q p ≡ b → Spanned index w s m held′ shown′ from′ upto′ q
+      go true e = rw (eqb-true q p e) (moves .spans, moves .inside .0, moves .inside .1)
+      go false e =
+          let apart : ¬ (q ≡ p) = eqb-false q p e in
+          let o = moves .others q apart in
+          rw (o .0, o .1, o .2, o .3) (before q (omega (arith, h)))
+
+  -- The places to come are as they were.
+  to-come : ((q : ℕ) → p ≤ q → q < 128 → Lent held shown from upto q) → (q : ℕ) → p + 1 ≤ q → q < 128 → Lent held′ shown′ from′ upto′ q
+  to-come before q l h =
+      let o = moves .others q (λ e. omega (arith, l)) in
+      rw (o .0, o .1, o .2, o .3) (before q (omega (arith, l)) h)
+
+-- With all places passed, and neither arc nor action from n on, the rows span the tokens.
+all-spanned : (index : List ℕ) (w s : List (List ℕ)) (m held shown from upto : List ℕ) (n p : ℕ) → Empty-from index n → n ≤ p → Four held shown from upto
+    → ((q : ℕ) → q < 128 → getD m q 0 < 4294967295)
+    → ((q : ℕ) → q < p → Spanned index w s m held shown from upto q) → ((q : ℕ) → p ≤ q → q < 128 → Lent held shown from upto q)
+    → Levels index w s m held shown from upto
+all-spanned index w s m held shown from upto n p none l four few passed to-come =
+    record { sizes = four; spans = λ q h. each q h (ltb q p) refl .0; inside = λ q h. (each q h (ltb q p) refl .1, each q h (ltb q p) refl .2) }
+  where
+    each : (q : ℕ) → q < 128 → (b : Bool) → ltb q p ≡ b → Spanned index w s m held shown from upto q
+    each q h true e = passed q (ltb-true q p e)
+    each q h false e =
+        let past : p ≤ q = ltb-false q p e in
+        let o = to-come q past h in
+        rw (o .0, o .1, o .2, o .3)
+        (none-spans index w s q 0 4294967295 (none .no-arc q (omega (arith, past, l)) h) (none .no-action q (omega (arith, past, l)) h), omega arith, few q h)
+
 abbrev Inv-loop : tie.InvT-loop
-Inv-loop held₀ m index plain curbs most w s n p₀ held p =
-    (p ≤ n) × (length held ≡ 128) × ((q : ℕ) → getD held q 0 ≡ cond (ltb q p) (held-by index w s (getD m q 0) q) 0)
+Inv-loop m index plain curbs w s n held₀ shown₀ from₀ upto₀ p₀ held shown from upto p =
+    (p ≤ n) × Four held shown from upto × ((q : ℕ) → q < p → Spanned index w s m held shown from upto q)
+    × ((q : ℕ) → p ≤ q → q < 128 → Lent held shown from upto q)
 
 abbrev μ-loop : tie.MeasureT-loop
-μ-loop held₀ m index plain curbs most w s n p₀ held p = n - p
+μ-loop m index plain curbs w s n held₀ shown₀ from₀ upto₀ p₀ held shown from upto p = n - p
 
 loop-holds : tie.Need-loop-holds Inv-loop μ-loop
-loop-holds c = (
-  omega arith,
-  ap length (c .pre .0),
-  λ q. ap (λ (l : List ℕ). getD l q 0) (c .pre .0) ∙ none-set q ∙ rw (le-ltb q 0 (omega arith)),
-)
+loop-holds c =
+    let lent = c .pre .0 in (
+      omega arith,
+      (ap length (lent .0), ap length (lent .1), ap length (lent .2), ap length (lent .3)),
+      λ q h. absurd (omega (arith, h)),
+      λ q l h. (row (lent .0) q h, row (lent .1) q h, row (lent .2) q h, row (lent .3) q h),
+    )
+  where
+    row : {rows : List ℕ} {k : ℕ} → rows ≡ replicate 128 k → (q : ℕ) → q < 128 → getD rows q 0 ≡ k
+    row {rows} {k} e q h = ap (λ (l : List ℕ). getD l q 0) e ∙ getD-replicate {A = ℕ} 128 q k 0 h
 
-mul-held-at : tie.Need-mul-held-at Inv-loop μ-loop
-mul-held-at c = search needs
+mul-relevel : tie.Need-mul-relevel Inv-loop μ-loop
+mul-relevel c = search needs
 
-element-copy-out-held-at : tie.Need-element-copy-out-held-at Inv-loop μ-loop
-element-copy-out-held-at c = search needs
+element-copy-out-relevel : tie.Need-element-copy-out-relevel Inv-loop μ-loop
+element-copy-out-relevel c = search needs
 
-mul-held-at-2 : tie.Need-mul-held-at-2 Inv-loop μ-loop
-mul-held-at-2 c = search needs
-
-element-copy-out-held-at-2 : tie.Need-element-copy-out-held-at-2 Inv-loop μ-loop
-element-copy-out-held-at-2 c = search needs
-
-mul-held-at-3 : tie.Need-mul-held-at-3 Inv-loop μ-loop
-mul-held-at-3 c = search needs
-
-element-copy-out-held-at-3 : tie.Need-element-copy-out-held-at-3 Inv-loop μ-loop
-element-copy-out-held-at-3 c = search needs
-
-mul-held-at-4 : tie.Need-mul-held-at-4 Inv-loop μ-loop
-mul-held-at-4 c = search needs
-
-element-copy-out-held-at-4 : tie.Need-element-copy-out-held-at-4 Inv-loop μ-loop
-element-copy-out-held-at-4 c = search needs
-
-mul-held-at-5 : tie.Need-mul-held-at-5 Inv-loop μ-loop
-mul-held-at-5 c = search needs
-
-index-1-held-at : tie.Need-index-1-held-at Inv-loop μ-loop
-index-1-held-at c = search needs
-
-held-at-requires : tie.Need-held-at-requires Inv-loop μ-loop
-held-at-requires c κs =
-    let start = c .before .before .before .before .before .before .before .pre in
-    bounded (start .1 .0) (c .before .before .before .before .before .before .loop .p) (omega (arith, c .before .before .before .before .before .loop-test .taken, start .1 .1 .1 .within)) (start .1 .1 .0)
-
-mul-held : tie.Need-mul-held Inv-loop μ-loop
-mul-held c = search needs
-
-element-write-held : tie.Need-element-write-held Inv-loop μ-loop
-element-write-held c = search needs
+relevel-requires : tie.Need-relevel-requires Inv-loop μ-loop
+relevel-requires c κs =
+    let at = c .before .before .before .before .before .before .loop in
+    let start = c .before .before .before .before .before .before .before in
+    let place : at .p < 128 = omega (arith, c .before .before .before .before .before .loop-test .taken, start .pre .1 .1 .0 .within) in
+    ((place, start .pre .1 .1 .1 (at .p) place), (start .pre .1 .0, at .inv .1))
 
 add-p : tie.Need-add-p Inv-loop μ-loop
 add-p c = search needs
@@ -77,27 +98,15 @@ loop-less c = search needs
 loop-again : tie.Need-loop-again Inv-loop μ-loop
 loop-again c =
     let at = c .before .before .before .before .before .before .before .loop in
-    let start = c .before .before .before .before .before .before .before .before .pre in
-    let place : at .p < 128 = omega (arith, c .before .before .before .before .before .before .loop-test .taken, start .1 .1 .1 .within) in (
-      omega arith,
-      length-set (at .held) (at .p) _ ∙ at .inv .1,
-      row-on (λ x. x) _ _ (at .held) (at .p) _ (omega (arith, at .inv .1)) (at .inv .2)
-          (row-held (start .1 .0) (at .p) place _ _ (omega arith) (c .held-at .ensures)),
-    )
+    let m = c .before .before .before .before .before .before .before .before .args .m .now in
+    let moves = c .relevel .ensures in
+    (omega arith, moves .sizes, passed m moves (at .inv .2), to-come m moves (at .inv .3))
 
 returns : tie.Need-returns Inv-loop μ-loop
 returns c =
     let at = c .before .loop in
-    let a = c .before .before .args in
-    let rows = c .before .before .pre .1 .1 .1 in
-    record { size = at .inv .1; holds = λ q h. at .inv .2 q ∙ done q h (ltb q (at .p)) refl }
-  where
-    done : (q : ℕ) → q < 128 → (b : Bool) → ltb q (c .before .loop .p) ≡ b
-        → cond b (held-by (c .before .before .args .index .now) (c .before .before .args .w .now) (c .before .before .args .s .now) (getD (c .before .before .args .m .now) q 0) q) 0
-        ≡ held-by (c .before .before .args .index .now) (c .before .before .args .w .now) (c .before .before .args .s .now) (getD (c .before .before .args .m .now) q 0) q
-    done q h true e = refl
-    done q h false e =
-        sym (none-held _ _ _ _ q (c .before .before .pre .1 .1 .1 .empty q (omega (arith, ltb-false q (c .before .loop .p) e, c .loop-test .left)) h))
+    let start = c .before .before in
+    all-spanned _ _ _ (start .args .m .now) _ _ _ _ _ (at .p) (start .pre .1 .1 .0) (c .loop-test .left) (at .inv .1) (start .pre .1 .1 .1) (at .inv .2) (at .inv .3)
 
 pub hold-spec : {M : Type 1} → statement M
 hold-spec =
@@ -106,19 +115,9 @@ hold-spec =
     Inv-loop
     μ-loop
     loop-holds
-    mul-held-at
-    element-copy-out-held-at
-    mul-held-at-2
-    element-copy-out-held-at-2
-    mul-held-at-3
-    element-copy-out-held-at-3
-    mul-held-at-4
-    element-copy-out-held-at-4
-    mul-held-at-5
-    index-1-held-at
-    held-at-requires
-    mul-held
-    element-write-held
+    mul-relevel
+    element-copy-out-relevel
+    relevel-requires
     add-p
     loop-less
     loop-again

@@ -24,32 +24,32 @@ transitions-requires c κs = search needs
 
 half-requires : tie.Need-half-requires
 half-requires c κs =
-    let start = c .before in
-    let few = c .transitions .ensures in (
-      (omega arith, omega (arith, few, few-transitions (start .args .n))),
-      λ i y h l k. start .pre .no-row 2 i y (omega arith) (past-transitions (start .args .n) i (omega arith) l) (omega arith) k,
+    let start = c .before .before in
+    let few = c .before .transitions .ensures in (
+      (omega arith, omega (arith, few, few-transitions (start .args .n)), start .pre .1 .0),
+      λ i y h l k. start .pre .0 .no-row 2 i y (omega arith) (past-transitions (start .args .n) i (omega arith) l) (omega arith) k,
     )
 
 sub-half : tie.Need-sub-half
 sub-half c =
-    let start = c .before .before in
-    omega (arith, c .before .transitions .ensures, halves (start .args .n) (start .pre .most) .0)
+    let start = c .before .before .before in
+    omega (arith, c .before .before .transitions .ensures, halves (start .args .n) (start .pre .0 .most) .0)
 
 half-requires-2 : tie.Need-half-requires-2
 half-requires-2 c κs =
-    let start = c .before .before in
-    let few = c .before .transitions .ensures in
+    let start = c .before .before .before .before in
+    let few = c .before .before .before .transitions .ensures in
     let n : ℕ = start .args .n in (
-      (omega arith, omega (arith, few, halves n (start .pre .most) .1)),
+      (omega arith, omega (arith, few, halves n (start .pre .0 .most) .1), start .pre .1 .1),
       λ i y h l k.
           let row : 256 + i ≡ 192 + (64 + i) = omega arith in
-          rw row (start .pre .no-row 2 (64 + i) y (omega arith) (omega (arith, few, few-transitions n)) (omega arith) k),
+          rw row (start .pre .0 .no-row 2 (64 + i) y (omega arith) (omega (arith, few, few-transitions n)) (omega arith) k),
     )
 
 returns : tie.Need-returns
 returns c =
     record {
-      low = c .before .half .ensures .holds;
+      low = c .before .before .half .ensures .holds;
       high = λ t p h l.
           let row : 256 + p ≡ 192 + (64 + p) = omega arith in
           rw (← row) (c .half2 .ensures .holds t p h l);

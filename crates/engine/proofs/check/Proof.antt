@@ -13,8 +13,8 @@ returns-2 c = record { answer-is = sym (answer-1 _ (length-long _ (c .if2 .taken
 
 judge-requires : tie.Need-judge-requires
 judge-requires c κs = (
-  length-right _ (c .before .before .before .before .before .before .before .before .if1 .left) (c .before .before .before .before .before .before .before .if2 .left),
-  (record { no-weights = refl; no-sorts = refl; no-takers = refl; no-truths = refl; no-falses = refl }, (refl, refl)),
+  length-right _ (c .before .before .before .before .before .before .before .before .before .if1 .left) (c .before .before .before .before .before .before .before .before .if2 .left),
+  (record { no-takers = refl; no-truths = refl; no-falses = refl; no-sorts = refl; no-a = refl; no-b = refl }, (refl, refl)),
 )
 
 returns-3 : tie.Need-returns-3

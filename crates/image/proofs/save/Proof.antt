@@ -10,16 +10,18 @@ use Rattle.image.proofs.save.Statement.{statement}
 use Rattle.image.proofs.save.Tie as tie
 
 abbrev Inv-loop : tie.InvT-loop
-Inv-loop bytes₀ h p₀ bytes p = (p ≤ 128) × Upto (image-bytes (held h)) p bytes
+Inv-loop bytes₀ tokens counters orders p₀ bytes p =
+    (p ≤ 128) × Upto (image-bytes (held (record { tokens = tokens; counters = counters; orders = orders }))) p bytes
 
 abbrev μ-loop : tie.MeasureT-loop
-μ-loop bytes₀ h p₀ bytes p = 128 - p
+μ-loop bytes₀ tokens counters orders p₀ bytes p = 128 - p
 
 abbrev Inv-loop2 : tie.InvT-loop2
-Inv-loop2 bytes₀ h p t₀ bytes t = (t ≤ 64) × Upto (image-bytes (held h)) (128 + t) bytes
+Inv-loop2 bytes₀ tokens counters orders p t₀ bytes t =
+    (t ≤ 64) × Upto (image-bytes (held (record { tokens = tokens; counters = counters; orders = orders }))) (128 + t) bytes
 
 abbrev μ-loop2 : tie.MeasureT-loop2
-μ-loop2 bytes₀ h p t₀ bytes t = 64 - t
+μ-loop2 bytes₀ tokens counters orders p t₀ bytes t = 64 - t
 
 loop-holds : tie.Need-loop-holds Inv-loop μ-loop Inv-loop2 μ-loop2
 loop-holds c = (omega arith, upto-none _ _ (c .before .pre .0))
@@ -31,9 +33,7 @@ element-copy-out-store : tie.Need-element-copy-out-store Inv-loop μ-loop Inv-lo
 element-copy-out-store c = search needs
 
 store-requires : tie.Need-store-requires Inv-loop μ-loop Inv-loop2 μ-loop2
-store-requires c κs =
-    let at = c .before .before .before .loop in
-    record { long = at .inv .1 .long; record-low = omega arith; small = c .before .before .before .before .before .pre .1 .tokens (at .p) (omega arith) }
+store-requires c κs = (c .before .before .before .loop .inv .1 .long, omega arith)
 
 add-p : tie.Need-add-p Inv-loop μ-loop Inv-loop2 μ-loop2
 add-p c = search needs
@@ -44,15 +44,13 @@ loop-less c = search needs
 loop-again : tie.Need-loop-again Inv-loop μ-loop Inv-loop2 μ-loop2
 loop-again c =
     let at = c .before .before .before .before .before .before .loop in
-    (omega arith, upto-place (held (c .before .before .before .before .before .before .before .before .args .t2)) _ _ (at .p) (omega arith) (at .inv .1) (c .before .before .store .ensures))
+    let start = c .before .before .before .before .before .before .before .before in
+    (omega arith, upto-place _ _ _ (at .p) (omega arith) (start .pre .1 .tokens (at .p) (omega arith)) (at .inv .1) (c .before .before .store .ensures))
 
 loop2-holds : tie.Need-loop2-holds Inv-loop μ-loop Inv-loop2 μ-loop2
 loop2-holds c =
     let all : c .before .loop .p ≡ 128 + 0 = omega arith in
     (omega arith, rw all at (c .before .loop .inv .1))
-
-mark-requires : tie.Need-mark-requires Inv-loop μ-loop Inv-loop2 μ-loop2
-mark-requires c κs = search needs
 
 add-store : tie.Need-add-store Inv-loop μ-loop Inv-loop2 μ-loop2
 add-store c = search needs
@@ -63,10 +61,17 @@ mul-store-2 c = search needs
 element-copy-out-store-2 : tie.Need-element-copy-out-store-2 Inv-loop μ-loop Inv-loop2 μ-loop2
 element-copy-out-store-2 c = search needs
 
+mark-requires : tie.Need-mark-requires Inv-loop μ-loop Inv-loop2 μ-loop2
+mark-requires c κs = search needs
+
+add-store-2 : tie.Need-add-store-2 Inv-loop μ-loop Inv-loop2 μ-loop2
+add-store-2 c =
+    let t = c .before .before .before .before .loop2 .t in
+    let start = c .before .before .before .before .before .before .before .before in
+    omega (arith, start .pre .1 .counters t (omega arith), c .mark .ensures .1)
+
 store-requires-2 : tie.Need-store-requires-2 Inv-loop μ-loop Inv-loop2 μ-loop2
-store-requires-2 c κs =
-    let at = c .before .before .before .before .loop2 in
-    record { long = at .inv .1 .long; record-low = omega arith; small = c .before .before .before .before .before .before .before .before .pre .1 .counters (at .t) (omega arith) }
+store-requires-2 c κs = (c .before .before .before .before .loop2 .inv .1 .long, omega arith)
 
 add-t : tie.Need-add-t Inv-loop μ-loop Inv-loop2 μ-loop2
 add-t c = search needs
@@ -76,9 +81,10 @@ loop2-less c = search needs
 
 loop2-again : tie.Need-loop2-again Inv-loop μ-loop Inv-loop2 μ-loop2
 loop2-again c =
-    let at = c .before .before .before .before .before .before .before .loop2 in (
+    let at = c .before .before .before .before .before .before .before .loop2 in
+    let start = c .before .before .before .before .before .before .before .before .before .before .before in (
       omega arith,
-      upto-transition (held (c .before .before .before .before .before .before .before .before .before .before .before .args .t2)) _ _ (at .t) _ (omega arith) (c .before .before .before .before .before .mark .ensures) (at .inv .1) (c .before .before .store2 .ensures),
+      upto-transition _ _ _ (at .t) _ (omega arith) (start .pre .1 .counters (at .t) (omega arith)) (c .before .before .before .mark .ensures .0) (at .inv .1) (c .before .before .store2 .ensures),
     )
 
 same-length : tie.Need-same-length Inv-loop μ-loop Inv-loop2 μ-loop2
@@ -105,10 +111,11 @@ save-spec =
     loop-less
     loop-again
     loop2-holds
-    mark-requires
     add-store
     mul-store-2
     element-copy-out-store-2
+    mark-requires
+    add-store-2
     store-requires-2
     add-t
     loop2-less

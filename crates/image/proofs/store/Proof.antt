@@ -1,7 +1,7 @@
 -- `store` meets its contract: four stores within the image are one record.
 use native.Mathlib.Omega.{arith}
 use lib.ListN.{length-set}
-use Rattle.image.proofs.Write.{stored-is}
+use Rattle.image.proofs.Write.{stored-is, four-of}
 use borrow.Author.Needs.{needs}
 use Rattle.image.proofs.store.Statement.{statement}
 use Rattle.image.proofs.store.Tie as tie
@@ -24,11 +24,17 @@ add-bytes c = search needs
 slice-write-bytes-2 : tie.Need-slice-write-bytes-2
 slice-write-bytes-2 c = simp length-set (omega arith)
 
+cast-bytes-3 : tie.Need-cast-bytes-3
+cast-bytes-3 c = search needs
+
 add-bytes-2 : tie.Need-add-bytes-2
 add-bytes-2 c = search needs
 
 slice-write-bytes-3 : tie.Need-slice-write-bytes-3
 slice-write-bytes-3 c = simp length-set (omega arith)
+
+cast-bytes-4 : tie.Need-cast-bytes-4
+cast-bytes-4 c = search needs
 
 add-bytes-3 : tie.Need-add-bytes-3
 add-bytes-3 c = search needs
@@ -40,7 +46,7 @@ same-length : tie.Need-same-length
 same-length c = search needs
 
 returns : tie.Need-returns
-returns c = stored-is _ _ _ _ (c .pre)
+returns c = stored-is _ _ _ _ _ _ (c .pre .0) (c .pre .1) _ (four-of _)
 
 pub store-spec : {M : Type 1} → statement M
 store-spec =
@@ -52,8 +58,10 @@ store-spec =
     cast-bytes-2
     add-bytes
     slice-write-bytes-2
+    cast-bytes-3
     add-bytes-2
     slice-write-bytes-3
+    cast-bytes-4
     add-bytes-3
     slice-write-bytes-4
     same-length

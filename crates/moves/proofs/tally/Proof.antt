@@ -1,281 +1,227 @@
--- `tally` meets its contract: what is moved and what the members left are still to move is what all move; a member is taken out with its whole chain,
--- and a chain is walked arc by arc.
-use mathlib.Core.Bool.{Bool, true, false, not, _&&_, and-false, or-true}
+-- `tally` meets its contract: what is moved and what the members left are still to move is what all move, and so with the places and the functions; a
+-- member is taken out with all its arcs, its places and its functions.
+use mathlib.Core.Bool.{Bool, true, false, not, _&&_, _||_}
 use mathlib.Core.List.{List}
-use mathlib.Core.Path.{_≡_, refl, sym, ap, _∙_}
-use Prim.Native.Nat.{ℕ, suc, _-_, _^_, _≤_, _<_}
+use mathlib.Core.Path.{_≡_, _∙_}
+use Prim.Native.Nat.{ℕ, _+_, _^_, _<_}
 use native.Mathlib.Omega.{arith}
 use lib.Dec.{eqb}
+use lib.ListN.{getD}
 use borrow.Author.Needs.{needs}
-use borrow.Author.Tests.{eqb-true, eq-eqb, lt-ltb}
+use Rattle.meaning.specs.Below.{some}
 use Rattle.meaning.specs.Bytes.{bit}
-use Rattle.meaning.specs.Table.{Table, table, is, arc}
-use Rattle.meaning.proofs.Bool.{and-left, and-right}
+use Rattle.meaning.specs.Table.{Table, table, total}
 use Rattle.sets.proofs.Bits.{bit-zero}
 use Rattle.sets.proofs.Members.{lowest-in, falls}
 use Rattle.places.specs.declared.Places.{Places}
-use Rattle.net.specs.Chains.{link, arc-of}
-use Rattle.net.proofs.Arcs.{few-records}
-use Rattle.net.proofs.Links.{link-le, link-passes}
-use Rattle.moves.specs.declared.Moved.{Moved}
-use Rattle.moves.proofs.Turns.{Tallying, begins, retold, turned, in-range, room, tallied}
-use Rattle.moves.proofs.Pending.{pending, chain-begins, chain-ends, chain-goes-on, chain-passed}
+use Rattle.places.specs.Set.{has}
+use Rattle.net.proofs.Arcs.{arc-ranges}
+use Rattle.moves.specs.Tallied.{Fits, Followed}
+use Rattle.moves.proofs.Sums.{load}
+use Rattle.moves.proofs.Step.{with-others, apart, joined, all-joined}
+use Rattle.moves.proofs.Turns.{Tallying, begins, done, followed, fits, load-low}
+use Rattle.moves.proofs.Touched.{nowhere, places-of, all-places}
 use Rattle.moves.proofs.tally.Statement.{statement}
 use Rattle.moves.proofs.tally.Tie as tie
 
--- What the members of `chosen` move, where the arcs that pass `todo` are still to be moved.
-abbrev Part : List ℕ → ℕ → ℕ → (ℕ → Bool) → List ℕ → Places → List ℕ → Moved → Type 0
-Part t sort chosen todo m before moved x = Tallying (table t) sort (λ k. bit chosen (table t .two k)) todo m before moved x
+-- Record k is of a member of the set.
+abbrev of : Table → ℕ → ℕ → Bool
+of tb set k = bit set (tb .two k)
 
--- The link is 0 or to an arc of u.
-record At (tb : Table) (sort u at : ℕ) : Type 0 where
-  inside : at ≤ tb .records
-  own : (r : ℕ) → at ≡ suc r → arc-of tb sort u r ≡ true
+-- The functions of transition t.
+abbrev functions-of : List ℕ → ℕ → ℕ
+functions-of index t = getD index (704 + t) 0
 
-at-link : (tb : Table) (sort u n at : ℕ) → n ≤ tb .records → at ≡ link n (arc-of tb sort u) → At tb sort u at
-at-link tb sort u n at h e =
-    record { inside = omega (arith, e, link-le n (arc-of tb sort u)); own = λ r z. link-passes n (arc-of tb sort u) r (sym e ∙ z) }
+-- The members of `left` are still to be tallied.
+record Part (tb : Table) (chosen : ℕ) (low high index : List ℕ) (left : ℕ) (taken put : List ℕ) (at : Places) (functions : ℕ) : Type 0 where
+  taking : Tallying tb 0 (load tb 0 (of tb chosen)) (of tb left) taken
+  putting : Tallying tb 3 (load tb 3 (of tb chosen)) (of tb left) put
+  places : (p : ℕ) → (has at p || some 64 (λ t. bit left t && has (places-of low high t) p))
+      ≡ some 64 (λ t. bit chosen t && has (places-of low high t) p)
+  executed : (k : ℕ) → (bit functions k || some 64 (λ t. bit left t && bit (functions-of index t) k))
+      ≡ some 64 (λ t. bit chosen t && bit (functions-of index t) k)
 
-abbrev Inv-loop2 : tie.InvT-loop2
-Inv-loop2 t moved₀ m set firsts next sort so-far₀ left u link₀ moved so-far at =
-    At (table t) sort u at
-    × ((before : Places) → Part t sort set (pending (table t) left u link₀) m before moved₀ so-far₀ → Part t sort set (pending (table t) left u at) m before moved so-far)
+-- Member u is taken out, and the others are left.
+module _ (tb : Table) (chosen left rest u : ℕ) (low-u : u < 64) (has-u : bit left u ≡ true)
+    (less : (j : ℕ) → bit rest j ≡ (bit left j && not (eqb u j))) where
+  splits : (k : ℕ) → of tb left k ≡ (of tb rest k || eqb u (tb .two k))
+  splits k = with-others left rest u has-u less (tb .two k)
 
-abbrev μ-loop2 : tie.MeasureT-loop2
-μ-loop2 t moved₀ m set firsts next sort so-far₀ left u link₀ moved so-far at = at
+  parts : (k : ℕ) → of tb rest k ≡ true → eqb u (tb .two k) ≡ false
+  parts k = apart left rest u has-u less (tb .two k)
+
+  module _ (sort : ℕ) (moved : List ℕ) (y : Tallying tb sort (load tb sort (of tb chosen)) (of tb left) moved) where
+    own-fits : ((p : ℕ) → p < 128 → load tb sort (of tb chosen) p < 4294967296) → Fits tb sort u moved
+    own-fits = fits tb sort (load tb sort (of tb chosen)) (of tb left) moved y (of tb rest) u (λ k h is. splits k) parts
+
+    own-followed : (after : List ℕ) → Followed tb sort u moved after → Tallying tb sort (load tb sort (of tb chosen)) (of tb rest) after
+    own-followed = followed tb sort (load tb sort (of tb chosen)) (of tb left) moved y (of tb rest) u (λ k h is. splits k) parts
+
+  one-more : (low high index taken put : List ℕ) (at : Places) (functions : ℕ) → Part tb chosen low high index left taken put at functions
+      → (taken′ put′ : List ℕ) → Followed tb 0 u taken taken′ → Followed tb 3 u put put′
+      → (at′ : Places) → ((p : ℕ) → has at′ p ≡ (has at p || has (places-of low high u) p))
+      → (functions′ : ℕ) → ((k : ℕ) → bit functions′ k ≡ (bit functions k || bit (functions-of index u) k))
+      → Part tb chosen low high index rest taken′ put′ at′ functions′
+  one-more low high index taken put at functions g taken′ put′ takes puts at′ gains functions′ gives =
+      record {
+        taking = own-followed 0 taken (g .taking) taken′ takes;
+        putting = own-followed 3 put (g .putting) put′ puts;
+        places = λ p. joined left rest u has-u less (λ t. has (places-of low high t) p) low-u (has at p) (gains p) (g .places p);
+        executed = λ k. joined left rest u has-u less (λ t. bit (functions-of index t) k) low-u (bit functions k) (gives k) (g .executed k);
+      }
 
 abbrev Inv-loop : tie.InvT-loop
-Inv-loop t moved₀ m set firsts next sort so-far₀ left₀ moved so-far left =
-    (left < 2 ^ 64) × Part t sort set (λ k. bit left (table t .two k)) m (so-far₀ .at) moved so-far
+Inv-loop t taken₀ put₀ set takes puts next low high index at₀ functions₀ left₀ taken put at functions left =
+    (left < 2 ^ 64) × Part (table t) set low high index left taken put at functions
 
 abbrev μ-loop : tie.MeasureT-loop
-μ-loop t moved₀ m set firsts next sort so-far₀ left₀ moved so-far left = left
+μ-loop t taken₀ put₀ set takes puts next low high index at₀ functions₀ left₀ taken put at functions left = left
 
-loop-holds : tie.Need-loop-holds Inv-loop2 μ-loop2 Inv-loop μ-loop
+loop-holds : tie.Need-loop-holds Inv-loop μ-loop
 loop-holds c =
     let a = c .before .args in
-    (omega arith, begins (table (a .t .now)) (a .sort) (λ k. bit (a .set) (table (a .t .now) .two k)) (a .m .now) (a .before) (a .moved .now) (c .before .pre .1 .1))
+    let tb : Table = table (a .t .now) in
+    let unmoved = c .before .pre .1 .1 .1 in (
+      omega arith,
+      record {
+        taking = begins tb 0 (of tb (a .set)) (a .taken .now) (unmoved .0);
+        putting = begins tb 3 (of tb (a .set)) (a .put .now) (unmoved .1);
+        places = λ p. rw (nowhere p);
+        executed = λ k. rw (bit-zero k);
+      },
+    )
 
-lowest-requires : tie.Need-lowest-requires Inv-loop2 μ-loop2 Inv-loop μ-loop
+lowest-requires : tie.Need-lowest-requires Inv-loop μ-loop
 lowest-requires c κs = search needs
 
 -- The member that is taken is below 64, and in what is left.
-member : (c : tie.After-lowest Inv-loop2 μ-loop2 Inv-loop μ-loop)
-    → (c .lowest .result < 64) × (bit (c .before .before .loop .left) (c .lowest .result) ≡ true)
+member : (c : tie.After-lowest Inv-loop μ-loop) → (c .lowest .result < 64) × (bit (c .before .before .loop .left) (c .lowest .result) ≡ true)
 member c =
     lowest-in (c .before .before .loop .left) (c .lowest .result) (c .before .before .loop .inv .0) (c .before .loop-test .taken) (c .lowest .ensures)
 
-rest-requires : tie.Need-rest-requires Inv-loop2 μ-loop2 Inv-loop μ-loop
+rest-requires : tie.Need-rest-requires Inv-loop μ-loop
 rest-requires c κs = search needs
 
 -- What is left then has the others.
-others : (c : tie.After-rest Inv-loop2 μ-loop2 Inv-loop μ-loop) (j : ℕ)
+others : (c : tie.After-rest Inv-loop μ-loop) (j : ℕ)
     → bit (c .rest .result) j ≡ (bit (c .before .before .before .loop .left) j && not (eqb (c .before .lowest .result) j))
 others c j = rw (c .before .lowest .ensures) (c .rest .ensures j)
 
-mul-count : tie.Need-mul-count Inv-loop2 μ-loop2 Inv-loop μ-loop
-mul-count c = omega (arith, member (c .before) .0)
+mul-near : tie.Need-mul-near Inv-loop μ-loop
+mul-near c = omega (arith, member (c .before) .0)
 
-element-copy-out-count : tie.Need-element-copy-out-count Inv-loop2 μ-loop2 Inv-loop μ-loop
-element-copy-out-count c = omega (arith, member (c .before) .0)
+element-copy-out-near : tie.Need-element-copy-out-near Inv-loop μ-loop
+element-copy-out-near c = omega (arith, member (c .before) .0)
 
-count-requires : tie.Need-count-requires Inv-loop2 μ-loop2 Inv-loop μ-loop
-count-requires c κs = search needs
+mul-far : tie.Need-mul-far Inv-loop μ-loop
+mul-far c = omega (arith, member (c .before .before) .0)
 
--- The chain of the member begins with its last arc.
-first-link : (c : tie.After-count Inv-loop2 μ-loop2 Inv-loop μ-loop)
-    → let a = c .before .before .before .before .before .before .before .args in
-    c .count .result ≡ link (table (a .t .now) .records) (arc-of (table (a .t .now)) (a .sort) (c .before .before .before .lowest .result))
-first-link c =
-    c .count .ensures
-    ∙ c .before .before .before .before .before .before .before .pre .1 .0 .begins (c .before .before .before .lowest .result) (member (c .before .before .before) .0)
+element-copy-out-far : tie.Need-element-copy-out-far Inv-loop μ-loop
+element-copy-out-far c = omega (arith, member (c .before .before) .0)
 
-loop2-holds : tie.Need-loop2-holds Inv-loop2 μ-loop2 Inv-loop μ-loop
-loop2-holds c =
-    let a = c .before .before .before .before .before .before .before .args in
+union-requires : tie.Need-union-requires Inv-loop μ-loop
+union-requires c κs = search needs
+
+add-union : tie.Need-add-union Inv-loop μ-loop
+add-union c = omega (arith, member (c .before .before .before .before) .0)
+
+mul-union : tie.Need-mul-union Inv-loop μ-loop
+mul-union c = omega (arith, member (c .before .before .before .before) .0)
+
+element-copy-out-union : tie.Need-element-copy-out-union Inv-loop μ-loop
+element-copy-out-union c = omega (arith, member (c .before .before .before .before) .0)
+
+union-requires-2 : tie.Need-union-requires-2 Inv-loop μ-loop
+union-requires-2 c κs = search needs
+
+-- What the member moves over arcs of one sort fits beside what is moved.
+own-room : (d : tie.After-rest Inv-loop μ-loop) (sort : ℕ) (moved : List ℕ)
+    → let a = d .before .before .before .before .before .args in
+    Tallying (table (a .t .now)) sort (load (table (a .t .now)) sort (of (table (a .t .now)) (a .set)))
+    (of (table (a .t .now)) (d .before .before .before .loop .left)) moved
+    → (d .before .lowest .result < 64) × Fits (table (a .t .now)) sort (d .before .lowest .result) moved
+own-room d sort moved y =
+    let start = d .before .before .before .before .before in
+    let a = start .args in
     let tb : Table = table (a .t .now) in
-    (at-link tb (a .sort) (c .before .before .before .lowest .result) (tb .records) (c .count .result) (omega arith) (first-link c), λ before x. x)
+    let m = member (d .before) in (
+      m .0,
+      own-fits tb (a .set) (d .before .before .before .loop .left) (d .rest .result) (d .before .lowest .result) (m .0) (m .1) (others d) sort moved y
+          (λ p h. load-low (a .t .now) (start .pre .0) sort (of tb (a .set)) p),
+    )
 
--- The member's arcs, by its chain, and those of the others are what is still to be moved.
-started : (c : tie.After-count Inv-loop2 μ-loop2 Inv-loop μ-loop)
-    → let a = c .before .before .before .before .before .before .before .args in
-    let at = c .before .before .before .before .before .loop in
-    Part (a .t .now) (a .sort) (a .set) (pending (table (a .t .now)) (c .before .before .rest .result) (c .before .before .before .lowest .result) (c .count .result))
-    (a .m .now) (a .before) (at .moved) (at .so-far)
-started c =
-    let d = c .before .before in
-    let a = d .before .before .before .before .before .args in
+follow-requires : tie.Need-follow-requires Inv-loop μ-loop
+follow-requires c κs =
+    let d = c .before .before .before .before .before .before in
+    let pre = d .before .before .before .before .before .pre in
     let at = d .before .before .before .loop in
-    let tb : Table = table (a .t .now) in
-    let u : ℕ = d .before .lowest .result in
-    let rest : ℕ = d .rest .result in
-    retold tb (a .sort) (λ k. bit (a .set) (tb .two k)) (a .m .now) (a .before) (λ k. bit (at .left) (tb .two k)) (pending tb rest u (c .count .result)) (at .moved) (at .so-far)
-    (λ k h here. rw (first-link c) (chain-begins tb (a .sort) rest u (at .left) (member (d .before) .1) (others d) k h here))
-    (at .inv .1)
+    (pre .0, (pre .1 .0 .0, own-room d 0 (at .taken) (at .inv .1 .taking)))
 
-loop-less : tie.Need-loop-less Inv-loop2 μ-loop2 Inv-loop μ-loop
+follow-requires-2 : tie.Need-follow-requires-2 Inv-loop μ-loop
+follow-requires-2 c κs =
+    let d = c .before .before .before .before .before .before .before .before in
+    let pre = d .before .before .before .before .before .pre in
+    let at = d .before .before .before .loop in
+    (pre .0, (pre .1 .0 .1, own-room d 3 (at .put) (at .inv .1 .putting)))
+
+loop-less : tie.Need-loop-less Inv-loop μ-loop
 loop-less c =
-    let d = c .before .before .before .before in
+    let d = c .before .before .before .before .before .before .before .before .before in
     let at = d .before .before .before .loop in
     falls (at .left) (d .before .lowest .result) (d .rest .result) (others d) (at .inv .0) (omega arith) (member (d .before) .1)
 
-loop-again : tie.Need-loop-again Inv-loop2 μ-loop2 Inv-loop μ-loop
+loop-again : tie.Need-loop-again Inv-loop μ-loop
 loop-again c =
-    let d = c .before .before .before .before in
+    let joins = c .before .before .before .before in
+    let d = joins .before .before .before .before .before in
     let a = d .before .before .before .before .before .args in
-    let at = c .before .loop2 in
-    let tb : Table = table (a .t .now) in
-    let u : ℕ = d .before .lowest .result in
-    let rest : ℕ = d .rest .result in (
+    let at = d .before .before .before .loop in
+    let m = member (d .before) in (
       omega arith,
-      retold tb (a .sort) (λ k. bit (a .set) (tb .two k)) (a .m .now) (a .before) (pending tb rest u (at .link)) (λ k. bit rest (tb .two k)) (at .moved) (at .so-far)
-          (λ k h here. rw (c .loop2-test .left) (chain-ends tb (a .sort) rest u k))
-          (at .inv .1 (a .before) (started (c .before .before))),
+      one-more (table (a .t .now)) (a .set) (at .left) (d .rest .result) (d .before .lowest .result) (m .0) (m .1) (others d)
+          (a .low .now) (a .high .now) (a .index .now) (at .taken) (at .put) (at .at) (at .functions) (at .inv .1) _ _
+          (c .before .before .follow .ensures) (c .follow2 .ensures) _ (joins .before .before .union .ensures) _ (joins .union2 .ensures),
     )
 
-sub-r : tie.Need-sub-r Inv-loop2 μ-loop2 Inv-loop μ-loop
-sub-r c = search needs
-
--- The link is to an arc of u.
-record Own (tb : Table) (sort u at : ℕ) : Type 0 where
-  succ : at ≡ suc (at - 1)
-  inside : at - 1 < tb .records
-  own : arc-of tb sort u (at - 1) ≡ true
-  sort-is : arc tb sort (at - 1) ≡ true
-  two-is : tb .two (at - 1) ≡ u
-
-own-at : (tb : Table) (sort u at : ℕ) → At tb sort u at → ¬ (at ≡ 0) → Own tb sort u at
-own-at tb sort u at x n =
-    let r : ℕ = at - 1 in
-    let next : at ≡ suc r = omega arith in
-    let own : arc-of tb sort u r ≡ true = x .own r next in
-    record {
-      succ = next;
-      inside = omega (arith, x .inside);
-      own = own;
-      sort-is = and-left (arc tb sort r) (eqb (tb .two r) u) own;
-      two-is = eqb-true (tb .two r) u (and-right (arc tb sort r) (eqb (tb .two r) u) own);
-    }
-
--- In the loop it is to an arc of the member.
-here : (c : tie.In-loop2 Inv-loop2 μ-loop2 Inv-loop μ-loop)
-    → let d = c .before .before .before .before in
-    let a = d .before .before .before .before .before .args in
-    Own (table (a .t .now)) (a .sort) (d .before .lowest .result) (c .before .loop2 .link)
-here c =
-    let d = c .before .before .before .before in
-    let a = d .before .before .before .before .before .args in
-    own-at (table (a .t .now)) (a .sort) (d .before .lowest .result) (c .before .loop2 .link) (c .before .loop2 .inv .0) (c .loop2-test .taken)
-
-add-arc-requires : tie.Need-add-arc-requires Inv-loop2 μ-loop2 Inv-loop μ-loop
-add-arc-requires c κs =
-    let d = c .before .before .before .before .before in
-    let start = d .before .before .before .before .before in
-    let a = start .args in
-    let at = c .before .before .loop2 in
-    let tb : Table = table (a .t .now) in
-    let u : ℕ = d .before .lowest .result in
-    let rest : ℕ = d .rest .result in
-    let o = here (c .before) in
-    room (a .t .now) (start .pre .0) (a .sort) (λ k. bit (a .set) (tb .two k)) (pending tb rest u (at .link)) (a .m .now) (a .before) (at .moved) (at .so-far)
-    (at .inv .1 (a .before) (started (c .before .before .before)))
-    (start .pre .1 .1 .tokens) (at .link - 1) (o .inside) (o .sort-is)
-    (rw (o .two-is, eq-eqb u u refl, lt-ltb (at .link - 1) (at .link) (omega (arith, o .succ))) (or-true (bit rest u)))
-
--- The record is one of at most 1,024.
-low : (c : tie.In-loop2 Inv-loop2 μ-loop2 Inv-loop μ-loop) → c .before .loop2 .link - 1 < 1024
-low c =
-    let start = c .before .before .before .before .before .before .before .before .before in
-    omega (arith, here c .inside, few-records (start .args .t .now) (start .pre .0))
-
-mul-count-2 : tie.Need-mul-count-2 Inv-loop2 μ-loop2 Inv-loop μ-loop
-mul-count-2 c = omega (arith, low (c .before .before))
-
-element-copy-out-count-2 : tie.Need-element-copy-out-count-2 Inv-loop2 μ-loop2 Inv-loop μ-loop
-element-copy-out-count-2 c = low (c .before .before)
-
-count-requires-2 : tie.Need-count-requires-2 Inv-loop2 μ-loop2 Inv-loop μ-loop
-count-requires-2 c κs = search needs
-
--- The chain goes on with the member's arc before it.
-next-link : (c : tie.After-count2 Inv-loop2 μ-loop2 Inv-loop μ-loop)
-    → let in-loop = c .before .before .before .before in
-    let d = in-loop .before .before .before .before in
-    let a = d .before .before .before .before .before .args in
-    c .count2 .result ≡ link (in-loop .before .loop2 .link - 1) (arc-of (table (a .t .now)) (a .sort) (d .before .lowest .result))
-next-link c =
-    let in-loop = c .before .before .before .before in
-    let d = in-loop .before .before .before .before in
-    let start = d .before .before .before .before .before in
-    let a = start .args in
-    let tb : Table = table (a .t .now) in
-    let r : ℕ = in-loop .before .loop2 .link - 1 in
-    let o = here in-loop in
-    c .count2 .ensures
-    ∙ start .pre .1 .0 .goes-on r (o .inside) (eqb-true _ _ (and-left (is tb 3 r) (eqb (tb .sort r) (a .sort)) (o .sort-is)))
-    (eqb-true _ _ (and-right (is tb 3 r) (eqb (tb .sort r) (a .sort)) (o .sort-is)))
-    ∙ ap (λ (u : ℕ). link r (arc-of tb (a .sort) u)) (o .two-is)
-
-loop2-less : tie.Need-loop2-less Inv-loop2 μ-loop2 Inv-loop μ-loop
-loop2-less c =
-    let in-loop = c .before .before .before .before in
-    let d = in-loop .before .before .before .before in
-    let a = d .before .before .before .before .before .args in
-    omega
-    (arith, next-link c, link-le (in-loop .before .loop2 .link - 1) (arc-of (table (a .t .now)) (a .sort) (d .before .lowest .result)), here in-loop .succ)
-
-loop2-again : tie.Need-loop2-again Inv-loop2 μ-loop2 Inv-loop μ-loop
-loop2-again c =
-    let in-loop = c .before .before .before .before in
-    let d = in-loop .before .before .before .before in
-    let start = d .before .before .before .before .before in
-    let a = start .args in
-    let at = in-loop .before .loop2 in
-    let tb : Table = table (a .t .now) in
-    let u : ℕ = d .before .lowest .result in
-    let rest : ℕ = d .rest .result in
-    let r : ℕ = at .link - 1 in
-    let o = here in-loop in
-    let range = in-range (a .t .now) (start .pre .0) (a .sort) r (o .inside) (o .sort-is) in
-    let gone : bit rest u ≡ false = others d u ∙ rw (eq-eqb u u refl) (and-false (bit (d .before .before .before .loop .left) u)) in (
-      at-link tb (a .sort) u r (c .count2 .result) (omega (arith, o .inside)) (next-link c),
-      λ before x.
-          turned tb (a .sort) (λ k. bit (a .set) (tb .two k)) (a .m .now) before (pending tb rest u (at .link)) (pending tb rest u (c .count2 .result)) (at .moved) (at .so-far)
-          (at .inv .1 before x) r (o .inside) (o .sort-is) (λ k h is. rw (next-link c) (chain-goes-on tb (a .sort) rest u gone r (o .own) (at .link) (o .succ) k h is))
-          (rw (next-link c) (chain-passed tb (a .sort) rest u gone r (o .own))) (range .0) (range .2) _ _ (c .before .before .add-arc .ensures),
-    )
-
-returns : tie.Need-returns Inv-loop2 μ-loop2 Inv-loop μ-loop
+returns : tie.Need-returns Inv-loop μ-loop
+unfolding total
 returns c =
     let start = c .before .before .before in
     let a = start .args in
-    let at = c .before .loop in
     let tb : Table = table (a .t .now) in
-    tallied (a .t .now) (start .pre .0) (a .sort) (a .set) (λ k. bit (at .left) (tb .two k)) (λ k. rw (c .loop-test .left) (bit-zero (tb .two k))) (a .m .now) (a .before)
-    (at .moved) (at .so-far) (at .inv .1)
+    let at = c .before .loop in
+    let g = at .inv .1 in
+    let none : (k : ℕ) → of tb (at .left) k ≡ false = λ k. rw (c .loop-test .left) (bit-zero (tb .two k)) in
+    record {
+      sizes = (g .taking .size, g .putting .size);
+      taken-is = done tb 0 (load tb 0 (of tb (a .set))) (of tb (at .left)) (at .taken) (g .taking) none;
+      put-is = done tb 3 (load tb 3 (of tb (a .set))) (of tb (at .left)) (at .put) (g .putting) none;
+      at-is = λ p h.
+          all-joined (at .left) (λ t. has (places-of (a .low .now) (a .high .now) t) p) (has (at .at) p) (c .loop-test .left) (g .places p)
+          ∙ all-places tb p (bit (a .set)) (λ r l k. arc-ranges (a .t .now) (start .pre .0) r l k .1) (a .low .now) (a .high .now) (start .pre .1 .1 .0) h;
+      functions-are = λ k. all-joined (at .left) (λ t. bit (functions-of (a .index .now) t) k) (bit (at .functions) k) (c .loop-test .left) (g .executed k);
+    }
 
 pub tally-spec : {M : Type 1} → statement M
 tally-spec =
     tie.close
     (tie.spec
-    Inv-loop2
-    μ-loop2
     Inv-loop
     μ-loop
     loop-holds
     lowest-requires
     rest-requires
-    mul-count
-    element-copy-out-count
-    count-requires
-    loop2-holds
+    mul-near
+    element-copy-out-near
+    mul-far
+    element-copy-out-far
+    union-requires
+    add-union
+    mul-union
+    element-copy-out-union
+    union-requires-2
+    follow-requires
+    follow-requires-2
     loop-less
     loop-again
-    sub-r
-    add-arc-requires
-    mul-count-2
-    element-copy-out-count-2
-    count-requires-2
-    loop2-less
-    loop2-again
     returns)

@@ -76,6 +76,7 @@ returns c =
     let at = c .before .loop in
     let takers : List ℕ = c .before .before .args .takers .now in
     record {
+      size = at .inv .2;
       holds =
           λ i j h.
           at .inv .3 i j h

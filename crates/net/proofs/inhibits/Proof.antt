@@ -1,137 +1,101 @@
--- `inhibits` answers its question: no place before p tells i and j apart, and at the first that does it returns.
-use mathlib.Core.Bool.{Bool, true, false, not, _&&_, and-false}
-use mathlib.Core.List.{List}
-use mathlib.Core.Path.{_≡_, refl, sym, _∙_}
-use Prim.Native.Nat.{ℕ, _+_, _-_, _≤_, _<_}
-use native.Mathlib.Numerals.{add-one}
+-- `inhibits` answers its question: the walk along j's chain sees all its input arcs, and at the first that an arc to i opposes it returns.
+use mathlib.Core.Bool.{Bool, true}
+use mathlib.Core.Path.{_≡_, sym, _∙_}
+use Prim.Native.Nat.{ℕ, _-_, _≤_, _<_}
 use native.Mathlib.Omega.{arith}
-use lib.Dec.{ltb, eqb}
 use borrow.Author.Needs.{needs}
-use borrow.Author.Tests.{lt-ltb, le-ltb}
-use Rattle.meaning.specs.Below.{some}
-use Rattle.meaning.proofs.Bool.{or-false}
+use Rattle.meaning.specs.Table.{table}
+use Rattle.meaning.proofs.Bool.{and-true}
 use Rattle.meaning.proofs.Below.{some-intro}
-use Rattle.net.specs.Rows.{cell, inhibits-by}
+use Rattle.net.specs.Chains.{link}
+use Rattle.net.specs.Inputs.{input-to}
+use Rattle.net.proofs.Links.{link-le}
+use Rattle.net.proofs.Walks.{Walk, walk-begins, walk-at, walk-goes-on, walk-ends}
+use Rattle.net.proofs.Carry.{stopping, inhibited-same}
 use Rattle.net.proofs.inhibits.Statement.{statement}
 use Rattle.net.proofs.inhibits.Tie as tie
 
--- Place p has a basic or test arc to i and an inhibitor arc of equal weight to j.
-abbrev apart : List (List ℕ) → List (List ℕ) → ℕ → ℕ → ℕ → Bool
-apart w s i j p = not (eqb (cell w p i) 0) && eqb (cell w p j) (cell w p i) && ltb (cell s p i) 2 && eqb (cell s p j) 2
-
--- Where i or j is no transition the answer is no; else it is whether some place tells them apart.
-out-left : (w s : List (List ℕ)) (i j : ℕ) → 64 ≤ i → false ≡ inhibits-by w s i j
-unfolding inhibits-by
-out-left w s i j h = rw (le-ltb i 64 h)
-
-out-right : (w s : List (List ℕ)) (i j : ℕ) → 64 ≤ j → false ≡ inhibits-by w s i j
-unfolding inhibits-by
-out-right w s i j h = rw (le-ltb j 64 h, and-false)
-
-module _ (w s : List (List ℕ)) (i j : ℕ) where
-  inside : i < 64 → j < 64 → some 128 (apart w s i j) ≡ inhibits-by w s i j
-  unfolding inhibits-by
-  inside h l = rw (lt-ltb i 64 h, lt-ltb j 64 l)
-
-  -- The answer at place p: a yes is one for all places, and a no leaves none up to p.
-  yes : (p : ℕ) (r : Bool) → p < 128 → r ≡ apart w s i j p → r ≡ true → some 128 (apart w s i j) ≡ true
-  yes p r h e q = some-intro 128 (apart w s i j) p h (sym e ∙ q)
-
-  no : (p : ℕ) (r : Bool) → some p (apart w s i j) ≡ false → r ≡ apart w s i j p → r ≡ false → some (p + 1) (apart w s i j) ≡ false
-  unfolding some
-  no p r n e q = rw (add-one p) (or-false n (sym e ∙ q))
-
 abbrev Inv-loop : tie.InvT-loop
-Inv-loop w s i j p₀ p = (p ≤ 128) × (some p (apart w s i j) ≡ false)
+Inv-loop t heads next i j link₀ link = Walk (table t .records) (input-to (table t) j) (stopping (table t) i j) link
 
 abbrev μ-loop : tie.MeasureT-loop
-μ-loop w s i j p₀ p = 128 - p
+μ-loop t heads next i j link₀ link = link
+
+mul-count : tie.Need-mul-count Inv-loop μ-loop
+mul-count c = omega (arith, c .before .pre .1 .1)
+
+element-copy-out-count : tie.Need-element-copy-out-count Inv-loop μ-loop
+element-copy-out-count c = c .before .pre .1 .1
+
+count-requires : tie.Need-count-requires Inv-loop μ-loop
+count-requires c κs = search needs
+
+loop-holds : tie.Need-loop-holds Inv-loop μ-loop
+loop-holds c =
+    let start = c .before .before .before in
+    walk-begins _ _ _ _ (c .count .ensures ∙ start .pre .0 .begins (start .args .j) (start .pre .1 .1))
+
+sub-r : tie.Need-sub-r Inv-loop μ-loop
+sub-r c = omega arith
+
+read-requires : tie.Need-read-requires Inv-loop μ-loop
+read-requires c κs = search needs
+
+opposed-requires : tie.Need-opposed-requires Inv-loop μ-loop
+opposed-requires c κs =
+    let pre = c .before .before .before .before .before .before .pre in
+    (pre .0, (pre .1 .0, pre .1 .2))
+
+-- The arc at which the walk stands, and what is asked of it.
+here : (c : tie.After-opposed Inv-loop μ-loop)
+    → let start = c .before .before .before .before .before .before .before in
+    let tb = table (start .args .t .now) in
+    let r = c .before .before .before .loop .link - 1 in
+    (r < tb .records) × (input-to tb (start .args .j) r ≡ true) × (c .opposed .result ≡ stopping tb (start .args .i) (start .args .j) r)
+here c =
+    let at = c .before .before .before .loop in
+    let reads = c .before .read .ensures in
+    let stands = walk-at _ _ _ (at .link) (at .inv) (at .link - 1) (omega arith) in
+    (stands .0, stands .1, c .opposed .ensures ∙ rw (reads .sort, reads .one, reads .four))
 
 returns : tie.Need-returns Inv-loop μ-loop
 returns c =
-    let a = c .before .args in
-    out-left (a .w .now) (a .s .now) (a .i) (a .j) (c .if1 .taken)
+    let h = here (c .before) in
+    sym (some-intro _ _ _ (h .0) (and-true (h .1) (sym (h .2) ∙ c .if1 .taken))) ∙ inhibited-same _ _ _
 
-returns-2 : tie.Need-returns-2 Inv-loop μ-loop
-returns-2 c =
-    let a = c .before .before .args in
-    out-right (a .w .now) (a .s .now) (a .i) (a .j) (c .if2 .taken)
+mul-count-2 : tie.Need-mul-count-2 Inv-loop μ-loop
+mul-count-2 c = omega (arith, here (c .before) .0, c .before .before .before .before .before .before .before .before .pre .1 .2)
 
-loop-holds : tie.Need-loop-holds Inv-loop μ-loop
-unfolding some
-loop-holds c = (omega arith, refl)
+element-copy-out-count-2 : tie.Need-element-copy-out-count-2 Inv-loop μ-loop
+element-copy-out-count-2 c = omega (arith, here (c .before) .0, c .before .before .before .before .before .before .before .before .pre .1 .2)
 
-mul-opposed : tie.Need-mul-opposed Inv-loop μ-loop
-mul-opposed c = omega arith
+count-requires-2 : tie.Need-count-requires-2 Inv-loop μ-loop
+count-requires-2 c κs = search needs
 
-mul-opposed-2 : tie.Need-mul-opposed-2 Inv-loop μ-loop
-mul-opposed-2 c = omega arith
-
-index-1-opposed : tie.Need-index-1-opposed Inv-loop μ-loop
-index-1-opposed c = omega arith
-
-index-2-opposed : tie.Need-index-2-opposed Inv-loop μ-loop
-index-2-opposed c = omega arith
-
-mul-opposed-3 : tie.Need-mul-opposed-3 Inv-loop μ-loop
-mul-opposed-3 c = omega arith
-
-mul-opposed-4 : tie.Need-mul-opposed-4 Inv-loop μ-loop
-mul-opposed-4 c = omega arith
-
-index-1-opposed-2 : tie.Need-index-1-opposed-2 Inv-loop μ-loop
-index-1-opposed-2 c = omega arith
-
-index-2-opposed-2 : tie.Need-index-2-opposed-2 Inv-loop μ-loop
-index-2-opposed-2 c = omega arith
-
-mul-opposed-5 : tie.Need-mul-opposed-5 Inv-loop μ-loop
-mul-opposed-5 c = omega arith
-
-index-1-opposed-3 : tie.Need-index-1-opposed-3 Inv-loop μ-loop
-index-1-opposed-3 c = omega arith
-
-index-2-opposed-3 : tie.Need-index-2-opposed-3 Inv-loop μ-loop
-index-2-opposed-3 c = omega arith
-
-mul-opposed-6 : tie.Need-mul-opposed-6 Inv-loop μ-loop
-mul-opposed-6 c = omega arith
-
-index-1-opposed-4 : tie.Need-index-1-opposed-4 Inv-loop μ-loop
-index-1-opposed-4 c = omega arith
-
-index-2-opposed-4 : tie.Need-index-2-opposed-4 Inv-loop μ-loop
-index-2-opposed-4 c = omega arith
-
-opposed-requires : tie.Need-opposed-requires Inv-loop μ-loop
-opposed-requires c κs = search needs
-
-returns-3 : tie.Need-returns-3 Inv-loop μ-loop
-returns-3 c =
-    let a = c .before .before .before .before .before .before .before .before .before .before .args in
-    let p : ℕ = c .before .before .before .before .before .before .before .loop .p in
-    let o = c .before .opposed in
-    sym (yes (a .w .now) (a .s .now) (a .i) (a .j) p (o .result) (omega arith) (o .ensures) (c .if3 .taken))
-    ∙ inside (a .w .now) (a .s .now) (a .i) (a .j) (omega arith) (omega arith)
-
-add-p : tie.Need-add-p Inv-loop μ-loop
-add-p c = omega arith
+-- The next link is to the arc before.
+next-link : (c : tie.After-count2 Inv-loop μ-loop)
+    → let start = c .before .before .before .before .before .before .before .before .before .before in
+    let r = c .before .before .before .before .before .before .loop .link - 1 in
+    (c .count2 .result ≡ link r (input-to (table (start .args .t .now)) (start .args .j))) × (c .count2 .result ≤ r)
+next-link c =
+    let start = c .before .before .before .before .before .before .before .before .before .before in
+    let r : ℕ = c .before .before .before .before .before .before .loop .link - 1 in
+    let chain : ℕ → Bool = input-to (table (start .args .t .now)) (start .args .j) in
+    let h = here (c .before .before .before) in
+    let is : c .count2 .result ≡ link r chain = c .count2 .ensures ∙ start .pre .0 .goes-on (start .args .j) r (h .0) (h .1) in
+    (is, omega (arith, is, link-le r chain))
 
 loop-less : tie.Need-loop-less Inv-loop μ-loop
-loop-less c = omega arith
+loop-less c = omega (arith, next-link c .1)
 
 loop-again : tie.Need-loop-again Inv-loop μ-loop
 loop-again c =
-    let a = c .before .before .before .before .before .before .before .before .before .before .args in
-    let l = c .before .before .before .before .before .before .before .loop in
-    let o = c .before .opposed in
-    (omega arith, no (a .w .now) (a .s .now) (a .i) (a .j) (l .p) (o .result) (l .inv .1) (o .ensures) (c .if3 .left))
+    let at = c .before .before .before .before .before .before .loop in
+    let h = here (c .before .before .before) in
+    walk-goes-on _ _ _ (at .link) (at .inv) (at .link - 1) (omega arith) (sym (h .2) ∙ c .before .before .if1 .left) _ (next-link c .0)
 
-returns-4 : tie.Need-returns-4 Inv-loop μ-loop
-returns-4 c =
-    let a = c .before .before .before .before .args in
-    let end : c .before .loop .p ≡ 128 = omega arith in
-    sym (rw end at (c .before .loop .inv .1)) ∙ inside (a .w .now) (a .s .now) (a .i) (a .j) (omega arith) (omega arith)
+returns-2 : tie.Need-returns-2 Inv-loop μ-loop
+returns-2 c = sym (walk-ends _ _ _ (c .before .loop .link) (c .before .loop .inv) (c .loop-test .left)) ∙ inhibited-same _ _ _
 
 pub inhibits-spec : {M : Type 1} → statement M
 inhibits-spec =
@@ -139,26 +103,17 @@ inhibits-spec =
     (tie.spec
     Inv-loop
     μ-loop
-    returns
-    returns-2
+    mul-count
+    element-copy-out-count
+    count-requires
     loop-holds
-    mul-opposed
-    mul-opposed-2
-    index-1-opposed
-    index-2-opposed
-    mul-opposed-3
-    mul-opposed-4
-    index-1-opposed-2
-    index-2-opposed-2
-    mul-opposed-5
-    index-1-opposed-3
-    index-2-opposed-3
-    mul-opposed-6
-    index-1-opposed-4
-    index-2-opposed-4
+    sub-r
+    read-requires
     opposed-requires
-    returns-3
-    add-p
+    returns
+    mul-count-2
+    element-copy-out-count-2
+    count-requires-2
     loop-less
     loop-again
-    returns-4)
+    returns-2)

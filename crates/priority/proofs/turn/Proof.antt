@@ -1,6 +1,6 @@
 -- The loop keeps that the rows passed are turned: each turn adds one transition to the sets of those in its row.
 use mathlib.Core.Logic.{⊎-elim}
-use mathlib.Core.Path.{_≡_, refl, _∙_}
+use mathlib.Core.Path.{_≡_, ap, _∙_}
 use Prim.Native.Nat.{_-_, _≤_, _<_}
 use native.Mathlib.Omega.{arith}
 use lib.ListN.{length}
@@ -17,7 +17,7 @@ abbrev μ-loop : tie.MeasureT-loop
 μ-loop rows n above₀ u₀ above u = n - u
 
 loop-holds : tie.Need-loop-holds Inv-loop μ-loop
-loop-holds c = (omega arith, c .pre, refl, no-row (c .args .rows .now))
+loop-holds c = (omega arith, c .pre .0, ap length (c .pre .1), rw (c .pre .1) (no-row (c .args .rows .now)))
 
 mul-if1 : tie.Need-mul-if1 Inv-loop μ-loop
 mul-if1 c = search needs

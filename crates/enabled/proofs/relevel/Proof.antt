@@ -1,0 +1,152 @@
+-- Each of the four rows is written once, at place p.
+use mathlib.Core.Path.{_≡_, refl, sym, ap, _∙_}
+use Prim.Native.Nat.{ℕ, _+_, _^_, _<_}
+use native.Mathlib.Omega.{arith}
+use lib.Dec.{eqb}
+use lib.ListN.{getD, length-set}
+use lib.Seq.{getD-set-same, getD-set-other}
+use mathlib.Core.Bool.{Bool, cond, _||_}
+use borrow.Author.Needs.{needs}
+use Rattle.meaning.specs.Bytes.{bit}
+use Rattle.sets.proofs.Bits.{bit-and}
+use Rattle.enabled.specs.Held.{held-by}
+use Rattle.enabled.proofs.Held.{row-held}
+use Rattle.enabled.proofs.relevel.Statement.{statement}
+use Rattle.enabled.proofs.relevel.Tie as tie
+
+add-level-of : tie.Need-add-level-of
+add-level-of c = search needs
+
+mul-level-of : tie.Need-mul-level-of
+mul-level-of c = search needs
+
+element-copy-out-level-of : tie.Need-element-copy-out-level-of
+element-copy-out-level-of c = search needs
+
+mul-level-of-2 : tie.Need-mul-level-of-2
+mul-level-of-2 c = search needs
+
+index-1-level-of : tie.Need-index-1-level-of
+index-1-level-of c = search needs
+
+level-of-requires : tie.Need-level-of-requires
+level-of-requires c κs = search needs
+
+mul-union : tie.Need-mul-union
+mul-union c = search needs
+
+element-copy-out-union : tie.Need-element-copy-out-union
+element-copy-out-union c = search needs
+
+mul-less : tie.Need-mul-less
+mul-less c = search needs
+
+element-copy-out-less : tie.Need-element-copy-out-less
+element-copy-out-less c = search needs
+
+less-requires : tie.Need-less-requires
+less-requires c κs = search needs
+
+union-requires : tie.Need-union-requires
+union-requires c κs = search needs
+
+mul-held : tie.Need-mul-held
+mul-held c = search needs
+
+element-write-held : tie.Need-element-write-held
+element-write-held c = search needs
+
+add-shows : tie.Need-add-shows
+add-shows c = search needs
+
+mul-shows : tie.Need-mul-shows
+mul-shows c = search needs
+
+element-copy-out-shows : tie.Need-element-copy-out-shows
+element-copy-out-shows c = search needs
+
+shows-requires : tie.Need-shows-requires
+shows-requires c κs = search needs
+
+mul-shown : tie.Need-mul-shown
+mul-shown c = search needs
+
+element-write-shown : tie.Need-element-write-shown
+element-write-shown c = search needs
+
+mul-from : tie.Need-mul-from
+mul-from c = search needs
+
+element-write-from : tie.Need-element-write-from
+element-write-from c = search needs
+
+mul-upto : tie.Need-mul-upto
+mul-upto c = search needs
+
+element-write-upto : tie.Need-element-write-upto
+element-write-upto c = search needs
+
+returns : tie.Need-returns
+returns c =
+    let level-of = c .before .before .before .before .before .before in
+    let start = level-of .before .before .before in
+    let a = start .args in
+    let four = start .pre .1 .1 in
+    let x = level-of .level-of .ensures in
+    let place = start .pre .0 .0 in
+    let here-held = getD-set-same (a .held .now) (a .p) (c .before .before .union .result) 0 (omega (arith, four .0)) in
+    let here-shown = getD-set-same (a .shown .now) (a .p) (c .shows .result) 0 (omega (arith, four .1)) in
+    let here-from = getD-set-same (a .from .now) (a .p) (level-of .level-of .result .from) 0 (omega (arith, four .2)) in
+    let here-upto = getD-set-same (a .upto .now) (a .p) (level-of .level-of .result .upto) 0 (omega (arith, four .3)) in
+    record {
+      sizes = (
+        length-set (a .held .now) (a .p) _ ∙ four .0,
+        length-set (a .shown .now) (a .p) _ ∙ four .1,
+        length-set (a .from .now) (a .p) _ ∙ four .2,
+        length-set (a .upto .now) (a .p) _ ∙ four .3,
+      );
+      spans = rw (here-held, here-shown, here-from, here-upto)
+          record {
+            holds = λ k l h.
+                row-held (start .pre .1 .0) (a .p) place (a .w .now) k (level-of .level-of .result .short) _ (omega arith) (x .short-is k l h)
+                (λ t. c .before .before .union .ensures t ∙ rw (bit-and (level-of .level-of .result .short) (getD (a .plain .now) (a .p) 0) t, c .before .before .before .less .ensures t));
+            shows = λ k l h. c .shows .ensures ∙ ap (λ (b : Bool). cond b 0 (getD (a .index .now) (576 + a .p) 0)) (sym (x .empty k l h));
+          };
+      inside = rw (here-from, here-upto) (x .inside);
+      others = λ q apart. (
+        getD-set-other (a .held .now) (a .p) q _ 0 apart,
+        getD-set-other (a .shown .now) (a .p) q _ 0 apart,
+        getD-set-other (a .from .now) (a .p) q _ 0 apart,
+        getD-set-other (a .upto .now) (a .p) q _ 0 apart,
+      );
+    }
+
+pub relevel-spec : {M : Type 1} → statement M
+relevel-spec =
+    tie.close
+    (tie.spec
+    add-level-of
+    mul-level-of
+    element-copy-out-level-of
+    mul-level-of-2
+    index-1-level-of
+    level-of-requires
+    mul-union
+    element-copy-out-union
+    mul-less
+    element-copy-out-less
+    less-requires
+    union-requires
+    mul-held
+    element-write-held
+    add-shows
+    mul-shows
+    element-copy-out-shows
+    shows-requires
+    mul-shown
+    element-write-shown
+    mul-from
+    element-write-from
+    mul-upto
+    element-write-upto
+    returns)

@@ -1,0 +1,64 @@
+-- Outside of the level the rows are made anew, and else they stand.
+use mathlib.Core.Bool.{Bool, true, false, _||_}
+use mathlib.Core.Path.{_≡_, refl, sym, _∙_}
+use Prim.Native.Nat.{ℕ, _≤_, _<_}
+use native.Mathlib.Omega.{arith}
+use lib.Dec.{leb, ltb}
+use borrow.Author.Needs.{needs}
+use borrow.Author.Tests.{ltb-false, leb-false}
+use Rattle.meaning.proofs.Bool.{not-both}
+use Rattle.enabled.proofs.shift.Statement.{statement}
+use Rattle.enabled.proofs.shift.Tie as tie
+
+mul-outside : tie.Need-mul-outside
+mul-outside c = search needs
+
+element-copy-out-outside : tie.Need-element-copy-out-outside
+element-copy-out-outside c = search needs
+
+mul-outside-2 : tie.Need-mul-outside-2
+mul-outside-2 c = search needs
+
+element-copy-out-outside-2 : tie.Need-element-copy-out-outside-2
+element-copy-out-outside-2 c = search needs
+
+outside-requires : tie.Need-outside-requires
+outside-requires c κs = search needs
+
+relevel-requires : tie.Need-relevel-requires
+relevel-requires c κs =
+    let start = c .before .before .before .before .before .before .before .before in
+    (start .pre .0, (start .pre .1 .0, start .pre .1 .1 .0))
+
+returns : tie.Need-returns
+returns c = search needs
+
+returns-2 : tie.Need-returns-2
+returns-2 c =
+    let start = c .before .before .before .before in
+    record {
+      sizes = start .pre .1 .1 .0;
+      spans = start .pre .1 .1 .1;
+      inside = stays _ _ _ (sym (c .before .outside .ensures) ∙ c .if1 .left);
+      others = λ q apart. (refl, refl, refl, refl);
+    }
+  where
+    stays : (k from upto : ℕ) → (ltb k from || leb upto k) ≡ false → (from ≤ k) × (k < upto)
+    stays k from upto e = go (ltb k from) refl e
+      where
+        go : (b : Bool) → ltb k from ≡ b → (b || leb upto k) ≡ false → (from ≤ k) × (k < upto)
+        go false q e = (ltb-false k from q, leb-false upto k e)
+        go true q e = not-both refl e
+
+pub shift-spec : {M : Type 1} → statement M
+shift-spec =
+    tie.close
+    (tie.spec
+    mul-outside
+    element-copy-out-outside
+    mul-outside-2
+    element-copy-out-outside-2
+    outside-requires
+    relevel-requires
+    returns
+    returns-2)

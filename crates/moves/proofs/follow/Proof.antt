@@ -1,0 +1,194 @@
+-- `follow` meets its contract: what is moved and what the chain still has to move is what was moved and what u moves; the chain is walked arc by arc.
+use mathlib.Core.Bool.{true}
+use mathlib.Core.List.{List}
+use mathlib.Core.Path.{_≡_, refl, sym, ap, _∙_}
+use Prim.Native.Nat.{ℕ, suc, _+_, _-_, _≤_, _<_}
+use native.Mathlib.Omega.{arith}
+use lib.Dec.{eqb}
+use lib.ListN.{getD}
+use borrow.Author.Needs.{needs}
+use borrow.Author.Tests.{eqb-true, eq-eqb, lt-ltb}
+use Rattle.meaning.specs.Table.{Table, table, total, is, arc}
+use Rattle.meaning.proofs.Bool.{and-left, and-right}
+use Rattle.net.specs.Chains.{link, arc-of}
+use Rattle.net.proofs.Arcs.{few-records}
+use Rattle.net.proofs.Links.{link-le, link-passes}
+use Rattle.moves.specs.Tallied.{moved-by}
+use Rattle.moves.proofs.Turns.{Tallying, done, retold, turned, in-range, room}
+use Rattle.moves.proofs.Pending.{pending, chain-begins, chain-ends, chain-goes-on, chain-passed}
+use Rattle.moves.proofs.follow.Statement.{statement}
+use Rattle.moves.proofs.follow.Tie as tie
+
+-- What a place has in the end.
+abbrev goal : Table → ℕ → ℕ → List ℕ → ℕ → ℕ
+goal tb sort u moved p = getD moved p 0 + moved-by tb sort (eqb u) p
+
+-- The link is 0 or to an arc of u.
+record At (tb : Table) (sort u at : ℕ) : Type 0 where
+  inside : at ≤ tb .records
+  own : (r : ℕ) → at ≡ suc r → arc-of tb sort u r ≡ true
+
+at-link : (tb : Table) (sort u n at : ℕ) → n ≤ tb .records → at ≡ link n (arc-of tb sort u) → At tb sort u at
+at-link tb sort u n at h e =
+    record { inside = omega (arith, e, link-le n (arc-of tb sort u)); own = λ r z. link-passes n (arc-of tb sort u) r (sym e ∙ z) }
+
+abbrev Inv-loop : tie.InvT-loop
+Inv-loop t moved₀ firsts next u sort link₀ moved at =
+    At (table t) sort u at × Tallying (table t) sort (goal (table t) sort u moved₀) (pending (table t) u at) moved
+
+abbrev μ-loop : tie.MeasureT-loop
+μ-loop t moved₀ firsts next u sort link₀ moved at = at
+
+mul-count : tie.Need-mul-count Inv-loop μ-loop
+mul-count c = omega (arith, c .before .pre .1 .1 .0)
+
+element-copy-out-count : tie.Need-element-copy-out-count Inv-loop μ-loop
+element-copy-out-count c = omega (arith, c .before .pre .1 .1 .0)
+
+count-requires : tie.Need-count-requires Inv-loop μ-loop
+count-requires c κs = search needs
+
+-- The chain begins with the last arc of u, and all arcs of u are still to come.
+loop-holds : tie.Need-loop-holds Inv-loop μ-loop
+unfolding total
+loop-holds c =
+    let start = c .before .before .before in
+    let a = start .args in
+    let tb : Table = table (a .t .now) in
+    let fits = start .pre .1 .1 .1 in
+    let first : c .count .result ≡ link (tb .records) (arc-of tb (a .sort) (a .u)) =
+    c .count .ensures ∙ start .pre .1 .0 .begins (a .u) (start .pre .1 .1 .0) in (
+      at-link tb (a .sort) (a .u) (tb .records) (c .count .result) (omega arith) first,
+      retold tb (a .sort) (goal tb (a .sort) (a .u) (a .moved .now)) (λ k. eqb (a .u) (tb .two k)) (a .moved .now)
+          (record { size = fits .size; moved-is = λ p h. refl }) (pending tb (a .u) (c .count .result))
+          (λ k h here. rw first (chain-begins tb (a .sort) (a .u) k h here)),
+    )
+
+sub-r : tie.Need-sub-r Inv-loop μ-loop
+sub-r c = search needs
+
+-- The link is to an arc of u.
+record Own (tb : Table) (sort u at : ℕ) : Type 0 where
+  succ : at ≡ suc (at - 1)
+  inside : at - 1 < tb .records
+  own : arc-of tb sort u (at - 1) ≡ true
+  sort-is : arc tb sort (at - 1) ≡ true
+  two-is : tb .two (at - 1) ≡ u
+
+own-at : (tb : Table) (sort u at : ℕ) → At tb sort u at → ¬ (at ≡ 0) → Own tb sort u at
+own-at tb sort u at x n =
+    let r : ℕ = at - 1 in
+    let next : at ≡ suc r = omega arith in
+    let own : arc-of tb sort u r ≡ true = x .own r next in
+    record {
+      succ = next;
+      inside = omega (arith, x .inside);
+      own = own;
+      sort-is = and-left (arc tb sort r) (eqb (tb .two r) u) own;
+      two-is = eqb-true (tb .two r) u (and-right (arc tb sort r) (eqb (tb .two r) u) own);
+    }
+
+-- So it is in the loop.
+here : (c : tie.In-loop Inv-loop μ-loop)
+    → let a = c .before .before .before .before .before .args in
+    Own (table (a .t .now)) (a .sort) (a .u) (c .before .loop .link)
+here c =
+    let a = c .before .before .before .before .before .args in
+    own-at (table (a .t .now)) (a .sort) (a .u) (c .before .loop .link) (c .before .loop .inv .0) (c .loop-test .taken)
+
+add-arc-requires : tie.Need-add-arc-requires Inv-loop μ-loop
+add-arc-requires c κs =
+    let start = c .before .before .before .before .before .before in
+    let a = start .args in
+    let at = c .before .before .loop in
+    let tb : Table = table (a .t .now) in
+    let o = here (c .before) in
+    room (a .t .now) (start .pre .0) (a .sort) (goal tb (a .sort) (a .u) (a .moved .now)) (pending tb (a .u) (at .link)) (at .moved) (at .inv .1)
+    (start .pre .1 .1 .1 .fits) (at .link - 1) (o .inside) (o .sort-is)
+    (rw (o .two-is, eq-eqb (a .u) (a .u) refl) (lt-ltb (at .link - 1) (at .link) (omega (arith, o .succ))))
+
+-- The record is one of at most 1,024.
+low : (c : tie.In-loop Inv-loop μ-loop) → c .before .loop .link - 1 < 1024
+low c =
+    let start = c .before .before .before .before .before in
+    omega (arith, here c .inside, few-records (start .args .t .now) (start .pre .0))
+
+mul-count-2 : tie.Need-mul-count-2 Inv-loop μ-loop
+mul-count-2 c = omega (arith, low (c .before .before))
+
+element-copy-out-count-2 : tie.Need-element-copy-out-count-2 Inv-loop μ-loop
+element-copy-out-count-2 c = low (c .before .before)
+
+count-requires-2 : tie.Need-count-requires-2 Inv-loop μ-loop
+count-requires-2 c κs = search needs
+
+-- The chain goes on with the arc of u before it.
+next-link : (c : tie.After-count2 Inv-loop μ-loop)
+    → let in-loop = c .before .before .before .before in
+    let a = in-loop .before .before .before .before .before .args in
+    c .count2 .result ≡ link (in-loop .before .loop .link - 1) (arc-of (table (a .t .now)) (a .sort) (a .u))
+next-link c =
+    let in-loop = c .before .before .before .before in
+    let start = in-loop .before .before .before .before .before in
+    let a = start .args in
+    let tb : Table = table (a .t .now) in
+    let r : ℕ = in-loop .before .loop .link - 1 in
+    let o = here in-loop in
+    c .count2 .ensures
+    ∙ start .pre .1 .0 .goes-on r (o .inside) (eqb-true _ _ (and-left (is tb 3 r) (eqb (tb .sort r) (a .sort)) (o .sort-is)))
+    (eqb-true _ _ (and-right (is tb 3 r) (eqb (tb .sort r) (a .sort)) (o .sort-is)))
+    ∙ ap (λ (u : ℕ). link r (arc-of tb (a .sort) u)) (o .two-is)
+
+loop-less : tie.Need-loop-less Inv-loop μ-loop
+loop-less c =
+    let in-loop = c .before .before .before .before in
+    let a = in-loop .before .before .before .before .before .args in
+    omega
+    (arith, next-link c, link-le (in-loop .before .loop .link - 1) (arc-of (table (a .t .now)) (a .sort) (a .u)), here in-loop .succ)
+
+loop-again : tie.Need-loop-again Inv-loop μ-loop
+loop-again c =
+    let in-loop = c .before .before .before .before in
+    let start = in-loop .before .before .before .before .before in
+    let a = start .args in
+    let at = in-loop .before .loop in
+    let tb : Table = table (a .t .now) in
+    let r : ℕ = at .link - 1 in
+    let o = here in-loop in (
+      at-link tb (a .sort) (a .u) r (c .count2 .result) (omega (arith, o .inside)) (next-link c),
+      rw (c .before .before .add-arc .ensures)
+          (turned tb (a .sort) (goal tb (a .sort) (a .u) (a .moved .now)) (pending tb (a .u) (at .link)) (at .moved) (at .inv .1)
+          (pending tb (a .u) (c .count2 .result)) r (o .inside) (o .sort-is) (in-range (a .t .now) (start .pre .0) (a .sort) r (o .inside) (o .sort-is) .0)
+          (λ k h is. rw (next-link c) (chain-goes-on tb (a .sort) (a .u) r (o .own) (at .link) (o .succ) k h is))
+          (rw (next-link c) (chain-passed tb (a .sort) (a .u) r (o .own)))),
+    )
+
+returns : tie.Need-returns Inv-loop μ-loop
+returns c =
+    let a = c .before .before .before .before .before .args in
+    let at = c .before .loop in
+    let tb : Table = table (a .t .now) in
+    record {
+      size = at .inv .1 .size;
+      adds = done tb (a .sort) (goal tb (a .sort) (a .u) (a .moved .now)) (pending tb (a .u) (at .link)) (at .moved) (at .inv .1)
+          (λ k. rw (c .loop-test .left) (chain-ends tb (a .sort) (a .u) k));
+    }
+
+pub follow-spec : {M : Type 1} → statement M
+follow-spec =
+    tie.close
+    (tie.spec
+    Inv-loop
+    μ-loop
+    mul-count
+    element-copy-out-count
+    count-requires
+    loop-holds
+    sub-r
+    add-arc-requires
+    mul-count-2
+    element-copy-out-count-2
+    count-requires-2
+    loop-less
+    loop-again
+    returns)

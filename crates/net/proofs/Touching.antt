@@ -1,0 +1,83 @@
+-- One more record: an arc of transition t at place p puts p into one of the two words of t, and no other record puts anything there.
+use mathlib.Core.Bool.{Bool, true, false, _&&_, _||_, and-false, or-false}
+use mathlib.Core.List.{List}
+use mathlib.Core.Path.{_≡_, refl, sym, ap, _∙_}
+use Prim.Native.Nat.{ℕ, _+_, _-_, _≤_, _<_}
+use native.Mathlib.Numerals.{add-one}
+use native.Mathlib.Omega.{arith}
+use lib.Dec.{eqb, ltb}
+use lib.ListN.{getD, set, replicate}
+use borrow.Author.Tests.{eqb-true, eq-eqb, ne-eqb, lt-ltb}
+use Rattle.meaning.specs.Below.{some}
+use Rattle.meaning.specs.Bytes.{bit}
+use Rattle.meaning.specs.Table.{Table, arc}
+use Rattle.meaning.proofs.Bool.{and-left, and-right, and-true, same-test}
+use Rattle.net.specs.Grow.{Grown}
+use Rattle.net.specs.Chains.{touches, Touches}
+use Rattle.net.proofs.Step.{grown-none, grown-more}
+
+-- Record r puts none of 64 numbers into any row.
+grown-idle : (f : ℕ → ℕ → ℕ → Bool) (r : ℕ) (rows : List ℕ) → Grown 64 r f rows → ((t p : ℕ) → p < 64 → f t p r ≡ false) → Grown 64 (r + 1) f rows
+unfolding some
+grown-idle f r rows g none =
+    record {
+      size = g .size;
+      holds = λ t p h l. g .holds t p h l ∙ rw (add-one r, none t p l) (sym (or-false (some r (f t p))));
+    }
+
+module _ (tb : Table) where
+  -- Before the first record no place is touched.
+  pub touches-none : Touches tb 0 (replicate 64 0) (replicate 64 0)
+  touches-none = record { low-is = grown-none 64 (touches tb); high-is = grown-none 64 (λ t p. touches tb t (64 + p)) }
+
+  module _ (r : ℕ) (low high : List ℕ) (g : Touches tb r low high) where
+    -- Record r is neither a basic nor a post arc.
+    pub touches-same : arc tb 0 r ≡ false → arc tb 3 r ≡ false → Touches tb (r + 1) low high
+    touches-same a b =
+        record {
+          low-is = grown-idle (touches tb) r low (g .low-is) (λ t p h. rw (a, b));
+          high-is = grown-idle (λ t p. touches tb t (64 + p)) r high (g .high-is) (λ t p h. rw (a, b));
+        }
+
+    -- Record r is such an arc of transition t at place p.
+    module _ (t p : ℕ) (low-t : t < 64) (here : touches tb t p r ≡ true) where
+      abbrev test : Bool
+      test = arc tb 0 r || arc tb 3 r
+
+      front : (test && eqb (tb .two r) t) ≡ true
+      front = and-left (test && eqb (tb .two r) t) (eqb (tb .one r) p) here
+
+      two : tb .two r ≡ t
+      two = eqb-true (tb .two r) t (and-right test (eqb (tb .two r) t) front)
+
+      one : tb .one r ≡ p
+      one = eqb-true (tb .one r) p (and-right (test && eqb (tb .two r) t) (eqb (tb .one r) p) here)
+
+      inside : (test && ltb (tb .two r) 64) ≡ true
+      inside = and-true (and-left test (eqb (tb .two r) t) front) (lt-ltb (tb .two r) 64 (omega (arith, two)))
+
+      away : (q k : ℕ) → ¬ (p ≡ q) → (test && eqb (tb .two r) k && eqb (tb .one r) q) ≡ false
+      away q k n = rw (ne-eqb (tb .one r) q (λ z. n (sym one ∙ z))) (and-false (test && eqb (tb .two r) k))
+
+      pub touches-low : p < 64 → (v : ℕ) → ((j : ℕ) → bit v j ≡ (bit (getD low t 0) j || eqb p j)) → Touches tb (r + 1) (set low t v) high
+      touches-low h v gains =
+          record {
+            low-is = rw (← two)
+                (grown-more 64 (touches tb) r low (g .low-is) test (tb .two r) (λ j. eqb (tb .one r) j) (λ x y. refl) inside v
+                (λ j l. rw (two, one) (gains j)));
+            high-is = grown-idle (λ x q. touches tb x (64 + q)) r high (g .high-is) (λ x q l. away (64 + q) x (λ z. omega arith));
+          }
+
+      pub touches-high : 64 ≤ p → (v : ℕ) → ((j : ℕ) → bit v j ≡ (bit (getD high t 0) j || eqb (p - 64) j)) → Touches tb (r + 1) low (set high t v)
+      touches-high h v gains =
+          record {
+            low-is = grown-idle (touches tb) r low (g .low-is) (λ x q l. away q x (λ z. omega arith));
+            high-is = rw (← two)
+                (grown-more 64 (λ x q. touches tb x (64 + q)) r high (g .high-is) test (tb .two r) (λ j. eqb (tb .one r) (64 + j)) (λ x y. refl) inside v
+                (λ j l. rw (two, one) (gains j ∙ ap (λ (b : Bool). bit (getD high t 0) j || b) (shifted j))));
+          }
+        where
+          shifted : (j : ℕ) → eqb (p - 64) j ≡ eqb p (64 + j)
+          shifted j =
+              same-test (eqb (p - 64) j) (eqb p (64 + j)) (λ e. eq-eqb p (64 + j) (omega (arith, eqb-true (p - 64) j e)))
+              (λ e. eq-eqb (p - 64) j (omega (arith, eqb-true p (64 + j) e)))
