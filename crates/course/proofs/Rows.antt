@@ -39,7 +39,8 @@ unnamed tb (suc r) u t none =
     go true = refl
     go false = refl
 
-module _ {bs : List ℕ} {x : Intervals} {index above takers truths falses : List ℕ} {reach : ℕ} (read : Read bs x index above takers truths falses reach) where
+module _ {bs : List ℕ} {x : Intervals} {index above takers truths falses : List ℕ} {reach : ℕ}
+    (read : Read bs x index above takers truths falses reach) where
   pub net-of : (known : ℕ) → ((t : ℕ) → t < 64 → bit known t ≡ bit (getD index (128 + t) 0) 0)
       → (timed : ℕ) → ((t : ℕ) → t < 64 → bit timed t ≡ not (eqb (getD (x .sorts) t 0) 0))
       → (conditional : ℕ) → ((t : ℕ) → t < 64 → bit conditional t ≡ not (eqb (getD truths t 0) 0 && eqb (getD falses t 0) 0))
@@ -49,10 +50,12 @@ module _ {bs : List ℕ} {x : Intervals} {index above takers truths falses : Lis
       → (rivals : List ℕ) (lower : ℕ) → Rivals higher takers (inputs .low) (inputs .high) rivals lower
       → (w s : List (List ℕ)) → Weights (table bs) w → Sorts (table bs) s
       → (plain curbs : List ℕ) → Sorted index s plain curbs
-      → (takes puts next near far : List ℕ) → Chained (table bs) 0 takes next → Chained (table bs) 3 puts next → Touches (table bs) (table bs .records) near far
-      → Net-of bs known timed conditional lower n x limit last index rivals w s takers (inputs .low) (inputs .high) plain curbs takes puts next near far truths falses
-  net-of known known-is timed timed-is conditional conditional-is higher higher-is n within limit last limits inputs inputs-hold rivals lower rivals-are w s weights sorts plain curbs
-      arcs takes puts next near far taking putting touching =
+      → (takes puts next near far : List ℕ) → Chained (table bs) 0 takes next → Chained (table bs) 3 puts next
+      → Touches (table bs) (table bs .records) near far
+      → Net-of bs known timed conditional lower n x limit last index rivals w s takers (inputs .low) (inputs .high) plain curbs
+      takes puts next near far truths falses
+  net-of known known-is timed timed-is conditional conditional-is higher higher-is n within limit last limits inputs inputs-hold
+      rivals lower rivals-are w s weights sorts plain curbs arcs takes puts next near far taking putting touching =
       record {
         sound = read .sound;
         index-holds = read .index-holds;

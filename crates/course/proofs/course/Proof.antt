@@ -24,14 +24,25 @@ lay-arcs-requires c κs =
 transitions-requires : tie.Need-transitions-requires
 transitions-requires c κs = search needs
 
--- Where the call began, seen from where the transitions below the reach are counted.
+-- The way back: from the cycles to the limits, from there to the sorted arcs, to where the transitions below the reach are counted, and to the start.
 abbrev begun : tie.After-transitions → tie.Start
 begun c = c .before .before .before .before .before .before .before .before .before .before .before .before .before .before
 
+abbrev counted : tie.After-sort-arcs → tie.After-transitions
+counted c = c .before .before .before .before .before .before .before .before .before .before .before .before .before .before .before .before
+
+abbrev sorted : tie.After-limits → tie.After-sort-arcs
+sorted c = c .before .before .before .before .before .before .before .before .before .before .before .before .before .before
+
+abbrev limited : tie.After-far2 → tie.After-limits
+limited c =
+    let lent = c .before .before .before .before .before .before .before .before .before in
+    lent .before .before .before .before .before .before .before .before .before .before .before .before
+
 turn-requires : tie.Need-turn-requires
 turn-requires c κs =
-    let counted = c .before in
-    (rw (counted .transitions .ensures) (begun counted .pre .0 .bare), refl)
+    let fewer = c .before in
+    (rw (fewer .transitions .ensures) (begun fewer .pre .0 .bare), refl)
 
 inputs-of-requires : tie.Need-inputs-of-requires
 inputs-of-requires c κs = (begun (c .before .before .before .before) .pre .0 .reaches, (refl, refl))
@@ -39,8 +50,8 @@ inputs-of-requires c κs = (begun (c .before .before .before .before) .pre .0 .r
 rivals-requires : tie.Need-rivals-requires
 rivals-requires c κs =
     let turned = c .before .before .before .before .before .before .before in
-    let counted = turned .before .before in
-    (unranked (begun counted .pre .0) _ (counted .transitions .ensures) _ (turned .turn .ensures), refl)
+    let fewer = turned .before .before in
+    (unranked (begun fewer .pre .0) _ (fewer .transitions .ensures) _ (turned .turn .ensures), refl)
 
 bound-requires : tie.Need-bound-requires
 bound-requires c κs = (search needs, begun (c .before .before .before .before .before .before .before .before .before .before .before) .pre .0 .reaches)
@@ -49,46 +60,43 @@ sort-arcs-requires : tie.Need-sort-arcs-requires
 sort-arcs-requires c κs = ((refl, refl), c .before .before .before .bound .ensures)
 
 known-requires : tie.Need-known-requires
-known-requires c κs = begun (c .before .before .before .before .before .before .before .before .before .before .before .before .before .before .before .before) .pre .0 .reaches
+known-requires c κs = begun (counted c) .pre .0 .reaches
 
 timed-requires : tie.Need-timed-requires
 timed-requires c κs =
-    let counted = c .before .before .before .before .before .before .before .before .before .before .before .before .before .before .before .before .before in
-    let fewer = counted .transitions .ensures in
-    let start = begun counted in
+    let fewer = counted (c .before) .transitions .ensures in
+    let start = begun (counted (c .before)) in
     (omega (arith, fewer, few-transitions (start .args .reach)), λ t l h. timeless (start .pre .0) _ fewer t l h .0)
 
 conditional-requires : tie.Need-conditional-requires
 conditional-requires c κs =
-    let counted = c .before .before .before .before .before .before .before .before .before .before .before .before .before .before .before .before .before .before .before .before in
-    let fewer = counted .transitions .ensures in
-    let read = begun counted .pre .0 in
+    let arcs = c .before .before .before .before in
+    let fewer = counted arcs .transitions .ensures in
+    let read = begun (counted arcs) .pre .0 in
     ((search needs, search needs), (unasked read _ fewer (read .truths-hold), unasked read _ fewer (read .falses-hold)))
 
 limits-requires : tie.Need-limits-requires
 limits-requires c κs =
-    let counted = c .before .before .before .before .before .before .before .before .before .before .before .before .before .before .before .before .before .before .before .before .before .before .before .before .before .before .before .before .before in
-    let fewer = counted .transitions .ensures in
-    let start = begun counted in
+    let arcs = c .before .before .before .before .before .before .before .before .before .before .before .before .before in
+    let fewer = counted arcs .transitions .ensures in
+    let start = begun (counted arcs) in
     ((refl, refl, omega (arith, fewer, few-transitions (start .args .reach))), timeless (start .pre .0) _ fewer)
 
 cycles-requires : tie.Need-cycles-requires
 cycles-requires c κs =
-    let limited = c .before .before .before .before .before .before .before .before .before .before .before .before .before .before .before .before .before .before .before .before .before in
-    let asked = limited .before .before .before .before .before .before .before .before .before in
+    let asked = limited c .before .before .before .before .before .before .before .before .before in
     let timed = asked .before .before .before in
     let known = timed .before in
-    let sorted = known .before in
-    let bound = sorted .before .before .before .before in
+    let bound = sorted (limited c) .before .before .before .before in
     let rivals = bound .before .before in
     let inputs = rivals .before .before .before .before .before in
     let turned = inputs .before .before .before in
-    let counted = turned .before .before in
-    let arcs = counted .before .lay-arcs .ensures in
-    let given = begun counted .pre in (
+    let fewer = turned .before .before in
+    let arcs = fewer .before .lay-arcs .ensures in
+    let given = begun fewer .pre in (
       net-of (given .0) _ (known .known .ensures) _ (timed .timed .ensures) _ (asked .conditional .ensures) _ (turned .turn .ensures)
-          _ (bound .bound .ensures) _ _ (limited .limits .ensures) _ (inputs .inputs-of .ensures) _ _ (rivals .rivals2 .ensures)
-          _ _ (arcs .0 .0) (arcs .0 .1) _ _ (sorted .sort-arcs .ensures) _ _ _ _ _ (arcs .1 .0 .0) (arcs .1 .0 .1) (arcs .1 .1 .0),
+          _ (bound .bound .ensures) _ _ (limited c .limits .ensures) _ (inputs .inputs-of .ensures) _ _ (rivals .rivals2 .ensures)
+          _ _ (arcs .0 .0) (arcs .0 .1) _ _ (sorted (limited c) .sort-arcs .ensures) _ _ _ _ _ (arcs .1 .0 .0) (arcs .1 .0 .1) (arcs .1 .1 .0),
       (
         arcs .1 .1 .1 .0,
         (
@@ -101,7 +109,7 @@ cycles-requires c κs =
 keep-requires : tie.Need-keep-requires
 keep-requires c κs =
     let done = c .before .before .before .before .before in
-    (begun (done .before .before .before .before .before .before .before .before .before .before .before .before .before .before .before .before .before .before .before .before .before .before .before .before .before .before .before .before .before .before .before .before .before .before .before .before .before .before .before .before .before .before .before .before .before .before .before .before .before .before .before .before) .pre .1 .1 .1 .long, done .cycles .ensures .small)
+    (begun (counted (sorted (limited (done .before)))) .pre .1 .1 .1 .long, done .cycles .ensures .small)
 
 same-length : tie.Need-same-length
 same-length c = search needs

@@ -249,8 +249,9 @@ loop-again c =
     let two : wide .wide2 .result ≡ tb .two r = wide .wide2 .ensures ∙ reads .two in
     let range = in-range wide in
     let here = at .inv .1 in
-    let kind : read .read .result .kind ≡ 3 → tb .kind r ≡ 3 = λ k. sym (reads .kind) ∙ k in
-    let cells : (k : read .read .result .kind ≡ 3) → ¬ (read .read .result .sort ≡ 3) → input tb (wide .before .wide .result) (wide .wide2 .result) r ≡ true = λ k n.
+    let x = read .read .result in
+    let kind : x .kind ≡ 3 → tb .kind r ≡ 3 = λ k. sym (reads .kind) ∙ k in
+    let cells : x .kind ≡ 3 → ¬ (x .sort ≡ 3) → input tb (wide .before .wide .result) (wide .wide2 .result) r ≡ true = λ k n.
     an-input tb r _ _ (kind k) (omega (arith, range .1 k .3, reads .sort, n)) one two in (
       omega arith,
       elim (c .if1 .came) [
@@ -288,7 +289,8 @@ returns c =
     let at = c .before .loop in
     let bs = c .before .before .before .args .t .now in
     let done = all-read bs (at .r) (at .inv .0) (c .loop-test .left) in
-    let all = subst (λ (k : ℕ). Part (table bs) k (at .w) (at .s) (at .takes) (at .puts) (at .next) (at .low) (at .high) (at .gain)) done (at .inv .1) in
+    let part : ℕ → Type 0 = λ k. Part (table bs) k (at .w) (at .s) (at .takes) (at .puts) (at .next) (at .low) (at .high) (at .gain) in
+    let all = subst part done (at .inv .1) in
     let low : at .gain ≤ 67107840 = omega (arith, all .most, few-records bs (c .before .before .before .pre .0)) in (
       (record { holds = all .cells .0 .holds }, record { holds = all .cells .1 .holds }),
       ((all .taking, all .putting), (all .touching, (all .gains, low))),
