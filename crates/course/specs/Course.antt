@@ -1,5 +1,5 @@
 -- What a call brings to its cycles, and what they leave: the meaning's trace of its words.
-use mathlib.Core.Bool.{cond}
+use mathlib.Core.Bool.{true, cond, _||_}
 use mathlib.Core.List.{List}
 use mathlib.Core.Path.{_≡_}
 use Prim.Native.Nat.{ℕ, _*_, _/_, _≤_, _<_}
@@ -7,33 +7,32 @@ use lib.Dec.{eqb}
 use lib.ListN.{length, getD}
 use Rattle.meaning.specs.Below.{first}
 use Rattle.meaning.specs.Bytes.{bit}
-use Rattle.meaning.specs.Table.{table}
+use Rattle.meaning.specs.Table.{table, is}
 use Rattle.meaning.specs.Answer.{accepted}
 use Rattle.meaning.specs.Priority.{above}
 use Rattle.meaning.specs.Defined.{check}
 use Rattle.meaning.specs.Image.{image, image-bytes, wrong}
 use Rattle.meaning.specs.Calls.{words-of, trace, Run, ran}
 use Rattle.net.specs.Rows.{Gathered}
+use Rattle.net.specs.Links.{Chained}
 use Rattle.timing.specs.declared.Intervals.{Intervals}
 use Rattle.timing.specs.Times.{Times-of}
-use Rattle.table.specs.Index.{Indexed, Reaches, transitions-below}
-use Rattle.priority.specs.Closed.{Bare}
+use Rattle.table.specs.Index.{Indexed, Reaches}
 use Rattle.image.specs.Held.{Small, held}
 use Rattle.course.specs.declared.Halted.{Halted}
 use Rattle.course.specs.declared.Ended.{Ended}
 
--- The bytes spell an accepted table, whose numbers are below n, and the rows are its own.
-pub record Read (bs : List ℕ) (x : Intervals) (index higher takers truths falses : List ℕ) (n : ℕ) : Type 0 where
+-- The bytes spell an accepted table, whose places and transitions are below n, and the rows are its own.
+pub record Read (bs : List ℕ) (x : Intervals) (index higher takers truths heads next : List ℕ) (n : ℕ) : Type 0 where
   pub sound : check bs ≡ accepted 0
   pub index-holds : Indexed (table bs) (table bs .records) index
   pub reaches : Reaches index n
-  pub below : (r : ℕ) → r < table bs .records → (table bs .one r < n) × (table bs .two r < n)
+  pub below : (r : ℕ) → r < table bs .records → (table bs .one r < n) × ((is (table bs) 3 r || is (table bs) 5 r) ≡ true → table bs .two r < n)
   pub times : Times-of (table bs) x
-  pub higher-is : (u t : ℕ) → u < 64 → t < 64 → bit (getD higher u 0) t ≡ above (table bs) u t
-  pub bare : Bare (transitions-below n) higher
+  pub higher-is : (t u : ℕ) → t < 64 → u < 64 → bit (getD higher t 0) u ≡ above (table bs) u t
   pub takers-hold : Gathered (table bs) 3 0 takers
   pub truths-hold : Gathered (table bs) 4 0 truths
-  pub falses-hold : Gathered (table bs) 4 1 falses
+  pub chains : Chained (table bs) heads next
 
 -- The image fits the table, the words are not too many, and the report has room for every one.
 pub record Ready (bs img ws report : List ℕ) : Type 0 where

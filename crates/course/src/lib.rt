@@ -89,17 +89,14 @@ fn cycles(
     takers: &[u64; 128],
     low: &[u64; 64],
     high: &[u64; 64],
-    plain: &[u64; 128],
     curbs: &[u64; 128],
-    takes: &[u16; 64],
-    puts: &[u16; 64],
+    heads: &[u16; 256],
     next: &[u16; 1024],
     near: &[u64; 64],
     far: &[u64; 64],
     truths: &[u64; 128],
-    falses: &[u64; 128],
 ) -> Halted
-    requires { ⌜ Net-of (now t) known timed conditional lower n (record { sorts = now sorts; a = now a; b = now b }) (now limit) (now last) (now index) (now rivals) (now w) (now s) (now takers) (now low) (now high) (now plain) (now curbs) (now takes) (now puts) (now next) (now near) (now far) (now truths) (now falses) ⌝ }
+    requires { ⌜ Net-of (now t) known timed conditional lower n (record { sorts = now sorts; a = now a; b = now b }) (now limit) (now last) (now index) (now rivals) (now w) (now s) (now takers) (now low) (now high) (now curbs) (now heads) (now next) (now near) (now far) (now truths) ⌝ }
     requires { ⌜ gain ≡ total (table (now t)) (arc (table (now t)) 3) (table (now t) .four) ⌝ }
     requires { ⌜ gain ≤ 67107840 ⌝ }
     requires { ⌜ Sized (now tokens) (now counters) ⌝ }
@@ -115,7 +112,6 @@ fn cycles(
     enabled::hold(
         tokens,
         index,
-        plain,
         curbs,
         w,
         s,
@@ -164,15 +160,12 @@ fn cycles(
             takers,
             low,
             high,
-            plain,
             curbs,
-            takes,
-            puts,
+            heads,
             next,
             near,
             far,
             truths,
-            falses,
         );
         let over = r.over;
         if over < 128 {
@@ -207,8 +200,8 @@ fn keep(image: &mut [u8], tokens: &[u32; 128], counters: &[u32; 64], orders: u64
     image::save(image, tokens, counters, orders);
 }
 
-// The cycles of a call whose checks are passed: what the rows leave out is made of them, then one cycle a word, then the image is written. With
-// no words nothing is done. No number in the table is at the reach or past it. The arrays for the input arcs are lent empty.
+// The cycles of a call whose checks are passed: what the rows leave out is made of them, then one cycle a word, then the image is written. No number of a
+// place or a transition is at the reach or past it; `higher` has those above each transition. The arrays for the input arcs are lent empty.
 pub fn course(
     t: &[u8],
     image: &mut [u8],
@@ -216,57 +209,43 @@ pub fn course(
     report: &mut [u8],
     x: Intervals,
     index: &[u64; 768],
-    above: &[u64; 64],
+    higher: &[u64; 64],
     w: &mut [[u16; 64]; 128],
     s: &mut [[u8; 64]; 128],
     takers: &[u64; 128],
     truths: &[u64; 128],
-    falses: &[u64; 128],
+    heads: &[u16; 256],
+    next: &[u16; 1024],
     reach: usize,
 ) -> Ended
-    requires { ⌜ Read (now t) x (now index) (now above) (now takers) (now truths) (now falses) reach ⌝ }
+    requires { ⌜ Read (now t) x (now index) (now higher) (now takers) (now truths) (now heads) (now next) reach ⌝ }
     requires { ⌜ now w ≡ replicate 128 (replicate 64 0) ⌝ }
     requires { ⌜ now s ≡ replicate 128 (replicate 64 0) ⌝ }
     requires { ⌜ Ready (now t) (now image) (now words) (now report) ⌝ }
     ensures { λ e. ⌜ Ends (now (t .entry)) (now (image .entry)) (now (words .entry)) (now (report .entry)) e (now (image .exit)) (now (report .exit)) ⌝ }
 {
-    if words.len() < 8 {
-        return Ended {
-            number: 0,
-            at: 0,
-            cycles: 0,
-        };
-    }
-    let mut takes = [0u16; 64];
-    let mut puts = [0u16; 64];
-    let mut next = [0u16; 1024];
+    let mut curbs = [0u64; 128];
+    let mut low = [0u64; 64];
+    let mut high = [0u64; 64];
     let mut near = [0u64; 64];
     let mut far = [0u64; 64];
-    let gain = net::lay_arcs(
+    let gain = net::laying::lay_arcs(
         t,
         w,
         s,
-        &mut takes,
-        &mut puts,
-        &mut next,
+        &mut curbs,
+        &mut low,
+        &mut high,
         &mut near,
         &mut far,
     );
     let fewer = table::transitions(reach);
-    let mut higher = [0u64; 64];
-    priority::turn(above, fewer, &mut higher);
-    let mut low = [0u64; 64];
-    let mut high = [0u64; 64];
-    enabled::inputs_of(index, reach, &mut low, &mut high);
     let mut rivals = [0u64; 64];
-    let lower = fire::rivals(&higher, takers, &low, &high, &mut rivals, fewer);
+    let lower = fire::rivals(higher, takers, &low, &high, &mut rivals, fewer);
     let n = enabled::bound(index, reach);
-    let mut plain = [0u64; 128];
-    let mut curbs = [0u64; 128];
-    enabled::sort_arcs(&mut plain, &mut curbs, index, s, n);
     let known = enabled::known(index, reach);
     let timed = enabled::timed(x, fewer);
-    let conditional = edges::conditional(truths, falses, fewer);
+    let conditional = edges::conditional(index, fewer);
     let sorts = x.sorts;
     let a = x.a;
     let b = x.b;
@@ -300,15 +279,12 @@ pub fn course(
         takers,
         &low,
         &high,
-        &plain,
         &curbs,
-        &takes,
-        &puts,
-        &next,
+        heads,
+        next,
         &near,
         &far,
         truths,
-        falses,
     );
     let done = e.cycles;
     keep(image, &tokens, &counters, e.orders, done);

@@ -7,16 +7,15 @@ use native.Mathlib.Omega.{arith}
 use lib.Dec.{ltb, eqb}
 use lib.ListN.{length, getD}
 use borrow.Author.Tests.{lt-ltb, le-ltb, ltb-true, ltb-false}
-use Rattle.meaning.specs.Below.{some, sum, first, within}
+use Rattle.meaning.specs.Below.{some, first, within}
 use Rattle.meaning.specs.Bytes.{bit}
-use Rattle.meaning.specs.Table.{Table, table, total, arc, transition, timing, ceiling}
-use Rattle.meaning.specs.Cycle.{enabled, counted, falling, as-wanted, in-time, firable, withdrawn, added, fired, rising, marked, reset, active, executed, overfull}
+use Rattle.meaning.specs.Table.{table, total, arc, transition, timing, ceiling}
+use Rattle.meaning.specs.Cycle.{enabled, counted, falling, firable, withdrawn, added, fired, rising, marked, reset, executed, overfull}
 use Rattle.meaning.proofs.Below.{first-same, first-none}
 use Rattle.meaning.proofs.Bool.{or-false-left, or-false-right}
 use Rattle.meaning.proofs.Accepted.{accepted-well}
 use Rattle.table.proofs.Carry.{Clean}
 use Rattle.places.specs.Set.{has}
-use Rattle.net.specs.Rows.{Weights, Sorts, cell}
 use Rattle.timing.specs.declared.Intervals.{Intervals}
 use Rattle.timing.proofs.Carry.{sort-is}
 use Rattle.image.specs.declared.Held.{Held}
@@ -25,7 +24,7 @@ use Rattle.enabled.specs.Inputs.{enabled-by}
 use Rattle.enabled.specs.Held.{Weighty, Levels}
 use Rattle.enabled.proofs.Carry.{enabled-same, arc-cell, held-same, shown-same}
 use Rattle.edges.specs.Edges.{fallen, fallen-at, Falls, firable-at}
-use Rattle.edges.proofs.Carry.{fallen-same, timely-same, asked-same}
+use Rattle.edges.proofs.Carry.{fallen-same, timely-same, truths-looked, asked-same}
 use Rattle.moves.specs.declared.Moved.{Moved}
 use Rattle.moves.specs.Moves.{moved-at}
 use Rattle.moves.specs.Tallied.{Tallied, moved-by, moved-at-all}
@@ -39,7 +38,7 @@ use Rattle.settle.specs.Settle.{new-at, Low, Crowded, Settled, Starves}
 use Rattle.settle.proofs.Carry.{starves-same}
 use Rattle.report.proofs.Carry.{bits-of, actions-are, functions-are}
 use Rattle.cycle.specs.Step.{Net-of, Sized, Poised, Under, Stepped}
-use Rattle.cycle.proofs.Facts.{weight-low, sound, arcs, input-once, conditions, untimed, fine}
+use Rattle.cycle.proofs.Facts.{sound, arcs, input-once, untimed, fine}
 
 -- Four tests, the last three together.
 grouped : (a b c d : Bool) → (a && b && c && d) ≡ (a && (b && c && d))
@@ -47,8 +46,8 @@ grouped true b c d = refl
 grouped false b c d = refl
 
 module _ {bs : List ℕ} {known timed conditional lower n : ℕ} {x : Intervals} {limit last index rivals : List ℕ}
-    {w s : List (List ℕ)} {takers low high plain curbs takes puts next near far truths falses : List ℕ}
-    (net : Net-of bs known timed conditional lower n x limit last index rivals w s takers low high plain curbs takes puts next near far truths falses) where
+    {w s : List (List ℕ)} {takers low high curbs heads next near far truths : List ℕ}
+    (net : Net-of bs known timed conditional lower n x limit last index rivals w s takers low high curbs heads next near far truths) where
   clean : Clean (table bs) index
   clean = record { fine = fine bs (net .sound); index = net .index-holds }
 
@@ -58,6 +57,10 @@ module _ {bs : List ℕ} {known timed conditional lower n : ℕ} {x : Intervals}
 
   timed-bit : (t : ℕ) → t < 64 → bit timed t ≡ not (eqb (timing (table bs) t) 0)
   timed-bit t l = net .timed-is t l ∙ ap (λ (k : ℕ). not (eqb k 0)) (sort-is (table bs) (sound bs (net .sound)) x (net .times) t l)
+
+  -- What is wanted true is looked at.
+  pub wanted-looked : (t k : ℕ) → t < 64 → k < 64 → bit (getD truths t 0) k ≡ true → bit (getD index (448 + t) 0) k ≡ true
+  wanted-looked t k h l = truths-looked (table bs) index truths clean (net .truths-hold) t h k l
 
   -- Every input arc has a weight.
   pub weighty : Weighty index w
@@ -96,7 +99,7 @@ module _ {bs : List ℕ} {known timed conditional lower n : ℕ} {x : Intervals}
     pub on-is : (t : ℕ) → bit on t ≡ (bit known t && not (bit shut t))
     pub falls : Falls timed x (h .orders) on (h .counters) counters
     pub able : ℕ
-    pub able-is : (t : ℕ) → bit able t ≡ (ltb t 64 && firable-at x counters on truths falses word t)
+    pub able-is : (t : ℕ) → bit able t ≡ (ltb t 64 && firable-at x counters on index truths word t)
     pub low-set : f < 2 ^ 64
     pub fires : Fires able rivals (h .tokens) w s takers low high f
     pub tallied : Tallied (table bs) f index taken put moved
@@ -155,7 +158,7 @@ module _ {bs : List ℕ} {known timed conditional lower n : ℕ} {x : Intervals}
         ∙ rw (
           lt-ltb t 64 l,
           on-bit t l,
-          asked-same (table bs) truths falses (net .truths-hold) (net .falses-hold) (conditions bs (net .sound)) word t l,
+          asked-same (table bs) index truths clean (net .truths-hold) t l word,
           timely-same (table bs) (sound bs (net .sound)) x (net .times) t l (getD counters t 0),
           counter-is t l,
         )
@@ -291,7 +294,7 @@ module _ {bs : List ℕ} {known timed conditional lower n : ℕ} {x : Intervals}
           → Stepped (table bs) h word (record { fired = f; actions = actions; functions = moved .functions; over = over; orders = h .orders }) (h .tokens) (h .counters)
       bursts l sized = says (h .orders) (h .tokens) (h .counters) (λ b. (refl, refl, refl)) (λ b. absurd (omega (arith, b, l))) sized
 
-      module _ (full : 128 ≤ over) (starved after : ℕ) (starves : Starves (h .tokens) (moved .at) taken plain w starved)
+      module _ (full : 128 ≤ over) (starved after : ℕ) (starves : Starves (h .tokens) (moved .at) taken index curbs w starved)
           (after-is : (t : ℕ) → bit after t ≡ (bit timed t && (bit f t || bit starved t))) {tokens taken′ put′ : List ℕ}
           (settled : Settled (h .tokens) (moved .at) taken put tokens taken′ put′) where
         -- The orders are those after the rising edge.
@@ -302,7 +305,7 @@ module _ {bs : List ℕ} {known timed conditional lower n : ℕ} {x : Intervals}
             ∙ rw (
               timed-bit t l,
               starves-same (table bs) w s index (record { low = low; high = high }) (net .weights) (net .sorts) clean (net .inputs)
-                  (arcs bs (net .sound)) (input-once bs (net .sound)) t l (h .tokens) taken plain curbs (moved .at) starved (net .arcs) starves (bit f)
+                  (arcs bs (net .sound)) (input-once bs (net .sound)) t l (h .tokens) taken curbs (moved .at) starved (net .curbed) starves (bit f)
                   is-taken not-taken,
             )
 

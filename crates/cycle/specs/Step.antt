@@ -1,5 +1,5 @@
 -- The rows of an accepted table, and one cycle over them.
-use mathlib.Core.Bool.{not, _&&_}
+use mathlib.Core.Bool.{not}
 use mathlib.Core.List.{List}
 use mathlib.Core.Path.{_≡_}
 use Prim.Native.Nat.{ℕ, _+_, _≤_, _<_}
@@ -13,11 +13,12 @@ use Rattle.meaning.specs.Priority.{above}
 use Rattle.meaning.specs.Defined.{check}
 use Rattle.meaning.specs.Cycle.{falling, fired, rising, active, executed, overfull}
 use Rattle.net.specs.Rows.{Gathered, Weights, Sorts}
-use Rattle.net.specs.Chains.{Chained, Touches}
+use Rattle.net.specs.Chains.{Touches}
+use Rattle.net.specs.Links.{Chained}
 use Rattle.timing.specs.declared.Intervals.{Intervals}
 use Rattle.timing.specs.Times.{Times-of}
 use Rattle.enabled.specs.Inputs.{Inputs-of}
-use Rattle.enabled.specs.Held.{Empty-from, Sorted, Levels}
+use Rattle.enabled.specs.Held.{Empty-from, Curbed, Levels}
 use Rattle.edges.specs.Edges.{Limits}
 use Rattle.moves.specs.Tallied.{Unmoved}
 use Rattle.fire.specs.Rivals.{Rivals}
@@ -28,12 +29,12 @@ use Rattle.cycle.specs.declared.Outcome.{Outcome}
 
 -- The rows are those of the accepted table that the bytes spell. The rivals of a transition are of those above it, whose rows are `higher`.
 pub record Net-of (bs : List ℕ) (known timed conditional lower n : ℕ) (x : Intervals) (limit last index rivals : List ℕ)
-    (w s : List (List ℕ)) (takers low high plain curbs takes puts next near far truths falses : List ℕ) : Type 0 where
+    (w s : List (List ℕ)) (takers low high curbs heads next near far truths : List ℕ) : Type 0 where
   pub sound : check bs ≡ accepted 0
   pub index-holds : Indexed (table bs) (table bs .records) index
   pub known-is : (t : ℕ) → t < 64 → bit known t ≡ transition (table bs) t
   pub timed-is : (t : ℕ) → t < 64 → bit timed t ≡ not (eqb (getD (x .sorts) t 0) 0)
-  pub conditional-is : (t : ℕ) → t < 64 → bit conditional t ≡ not (eqb (getD truths t 0) 0 && eqb (getD falses t 0) 0)
+  pub conditional-is : (t : ℕ) → t < 64 → bit conditional t ≡ not (eqb (getD index (448 + t) 0) 0)
   pub times : Times-of (table bs) x
   pub limits : Limits x limit last
   pub higher : List ℕ
@@ -44,12 +45,10 @@ pub record Net-of (bs : List ℕ) (known timed conditional lower n : ℕ) (x : I
   pub takers-hold : Gathered (table bs) 3 0 takers
   pub inputs : Inputs-of index (record { low = low; high = high })
   pub within : Empty-from index n
-  pub arcs : Sorted index s plain curbs
-  pub taking : Chained (table bs) 0 takes next
-  pub putting : Chained (table bs) 3 puts next
+  pub curbed : Curbed index s curbs
+  pub chains : Chained (table bs) heads next
   pub touching : Touches (table bs) (table bs .records) near far
   pub truths-hold : Gathered (table bs) 4 0 truths
-  pub falses-hold : Gathered (table bs) 4 1 falses
 
 -- What is kept of each place spans its tokens, and nothing is taken or put yet.
 pub record Poised (index : List ℕ) (w s : List (List ℕ)) (tokens held shown from upto taken put : List ℕ) : Type 0 where

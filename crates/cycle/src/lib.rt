@@ -59,17 +59,14 @@ pub fn step(
     takers: &[u64; 128],
     low: &[u64; 64],
     high: &[u64; 64],
-    plain: &[u64; 128],
     curbs: &[u64; 128],
-    takes: &[u16; 64],
-    puts: &[u16; 64],
+    heads: &[u16; 256],
     next: &[u16; 1024],
     near: &[u64; 64],
     far: &[u64; 64],
     truths: &[u64; 128],
-    falses: &[u64; 128],
 ) -> Outcome
-    requires { ⌜ Net-of (now t) known timed conditional lower n (record { sorts = now sorts; a = now a; b = now b }) (now limit) (now last) (now index) (now rivals) (now w) (now s) (now takers) (now low) (now high) (now plain) (now curbs) (now takes) (now puts) (now next) (now near) (now far) (now truths) (now falses) ⌝ }
+    requires { ⌜ Net-of (now t) known timed conditional lower n (record { sorts = now sorts; a = now a; b = now b }) (now limit) (now last) (now index) (now rivals) (now w) (now s) (now takers) (now low) (now high) (now curbs) (now heads) (now next) (now near) (now far) (now truths) ⌝ }
     requires { ⌜ Small (record { tokens = now tokens; counters = now counters; orders = orders }) ⌝ }
     requires { ⌜ Sized (now tokens) (now counters) ⌝ }
     requires { ⌜ Poised (now index) (now w) (now s) (now tokens) (now held) (now shown) (now from) (now upto) (now taken) (now put) ⌝ }
@@ -84,9 +81,9 @@ pub fn step(
     keep(before, counters, ceiling);
     let ready = edges::fall(counters, timed, orders, on, a, limit, last);
     // The rising edge.
-    let able = edges::firable(on, timed, ready, conditional, truths, falses, word);
+    let able = edges::firable(on, timed, ready, conditional, index, truths, word);
     let fired = fire::fired(able, lower, rivals, tokens, w, s, takers, low, high);
-    let moved = moves::tally(t, taken, put, fired, takes, puts, next, near, far, index);
+    let moved = moves::tally(t, taken, put, fired, heads, next, near, far, index);
     let at = moved.at;
     let functions = moved.functions;
     let over = settle::over(at, ceiling, tokens, taken, put);
@@ -110,7 +107,6 @@ pub fn step(
         put,
         at,
         index,
-        plain,
         curbs,
         w,
         s,

@@ -2,7 +2,7 @@
 use mathlib.Core.Bool.{Bool, true, false, cond, not, _&&_, _||_}
 use mathlib.Core.List.{List}
 use mathlib.Core.Path.{_≡_, refl, _∙_}
-use Prim.Native.Nat.{ℕ, suc, _≤_, _<_}
+use Prim.Native.Nat.{ℕ, suc, _+_, _≤_, _<_}
 use native.Mathlib.Omega.{arith}
 use lib.Dec.{leb, ltb, eqb, leb·suc-suc}
 use lib.ListN.{getD}
@@ -51,13 +51,13 @@ module _ (x : Intervals) (limit last : List ℕ) (l : Limits x limit last) (time
       go t h false e = raised-is (getD (x .sorts) t 0) (getD (x .a) t 0) (getD (x .b) t 0) (getD limit t 0) (bit on t) (bit orders t) (getD before t 0) e (l .rises-to t h)
 
   -- And the firable are those of the sorts.
-  module _ (ready : ℕ) (r : Ready timed on (x .a) last after ready) (truths falses : List ℕ) (word able : ℕ)
-      (e : Able on timed ready truths falses word able) where
-    pub firable-is : (t : ℕ) → bit able t ≡ (ltb t 64 && firable-at x after on truths falses word t)
+  module _ (ready : ℕ) (r : Ready timed on (x .a) last after ready) (index truths : List ℕ) (word able : ℕ)
+      (e : Able on timed ready index truths word able) where
+    pub firable-is : (t : ℕ) → bit able t ≡ (ltb t 64 && firable-at x after on index truths word t)
     firable-is t = e t ∙ below (ltb t 64) refl
       where
         asked : Bool
-        asked = as-asked (getD truths t 0) (getD falses t 0) word
+        asked = as-asked (getD index (448 + t) 0) (getD truths t 0) word
 
         sort : ℕ
         sort = getD (x .sorts) t 0
@@ -84,6 +84,7 @@ module _ (x : Intervals) (limit last : List ℕ) (l : Limits x limit last) (time
             either true false false = refl
             either false q s = refl
 
-        below : (b : Bool) → ltb t 64 ≡ b → (b && (((bit on t && not (bit timed t)) || bit ready t) && asked)) ≡ (b && firable-at x after on truths falses word t)
+        below : (b : Bool) → ltb t 64 ≡ b
+            → (b && (((bit on t && not (bit timed t)) || bit ready t) && asked)) ≡ (b && firable-at x after on index truths word t)
         below true h = rw (r t, timed-is t (ltb-true t 64 h)) (go (ltb-true t 64 h) (eqb sort 0) refl)
         below false h = refl

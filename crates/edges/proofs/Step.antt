@@ -1,44 +1,19 @@
--- A set inside another; and walks over a set's members: each turn writes one row, or keeps or drops one member, and what all come to stays the same.
+-- Walks over a set's members: each turn writes one row, or keeps or drops one member, and what all come to stays the same.
 use mathlib.Core.Bool.{Bool, true, false, cond, not, _&&_, _||_, and-true, and-false, or-false}
 use mathlib.Core.List.{List}
 use mathlib.Core.Path.{_≡_, refl, sym, ap, _∙_}
 use Prim.Native.Nat.{ℕ, _+_, _^_, _<_}
 use native.Mathlib.Omega.{arith}
-use lib.Bits.{bitAnd, and-lt}
+use lib.Bits.{bitAnd}
 use lib.Dec.{eqb, ltb}
 use lib.ListN.{length, getD, set}
 use lib.Seq.{getD-set-same, getD-set-other}
 use borrow.Author.Count.{below-more}
-use borrow.Author.Tests.{eqb-true, eqb-false, eq-eqb, lt-ltb, ltb-true, ltb-false, not-true, not-false}
-use Rattle.meaning.specs.Below.{some}
+use borrow.Author.Tests.{eqb-true, eqb-false, eq-eqb, ltb-true, ltb-false, not-false}
 use Rattle.meaning.specs.Bytes.{bit}
-use Rattle.meaning.proofs.Bool.{same-test, and-left, and-right}
-use Rattle.meaning.proofs.Below.{none-intro, none-elim}
-use Rattle.sets.proofs.Bits.{bit-zero, bit-and, bit-out, same-set}
+use Rattle.meaning.proofs.Below.{none-intro}
+use Rattle.sets.proofs.Bits.{bit-zero, bit-and, bit-out}
 use Rattle.edges.specs.Edges.{as-asked, raised}
-
--- All of s is in t: nothing of s is out of t.
-pub inside : (s t : ℕ) → s < 2 ^ 64 → t < 2 ^ 64 → eqb (bitAnd s t) s ≡ not (some 64 (λ k. bit s k && not (bit t k)))
-inside s t h l =
-    same-test (eqb (bitAnd s t) s) (not (some 64 (λ k. bit s k && not (bit t k))))
-    (λ e.
-    ap not
-    (none-intro 64 (λ k. bit s k && not (bit t k))
-    (λ k b. out (bit s k) (bit t k) (sym (bit-and s t k) ∙ ap (λ (x : ℕ). bit x k) (eqb-true (bitAnd s t) s e)))))
-    (λ e.
-    eq-eqb (bitAnd s t) s
-    (same-set (bitAnd s t) s (and-lt 64 s t h l) h
-    (λ k b. bit-and s t k ∙ both (bit s k) (bit t k) (none-elim 64 (λ i. bit s i && not (bit t i)) (not-true _ e) k b))))
-  where
-    out : (a b : Bool) → (a && b) ≡ a → (a && not b) ≡ false
-    out true true e = refl
-    out true false e = sym e
-    out false b e = refl
-
-    both : (a b : Bool) → (a && not b) ≡ false → (a && b) ≡ a
-    both true true e = refl
-    both true false e = sym e
-    both false b e = refl
 
 -- What t's row comes to in a walk: what f makes of it, where t is still left.
 abbrev pub comes-to : (ℕ → ℕ → ℕ) → ℕ → List ℕ → ℕ → ℕ
@@ -63,16 +38,6 @@ module _ (a k b : ℕ) (rest : (j : ℕ) → bit b j ≡ (bit a j && not (eqb k 
       go true y = rw (← eqb-true k t y, rest k, has, eq-eqb k k refl, getD-set-same rows k v 0 h) same
       go false y = rw (getD-set-other rows k t v 0 (λ z. eqb-false k t y (sym z)), rest t, y, and-true (bit a t))
 
-  -- Member k is kept if it passes: what is kept or still to be kept stays the same.
-  pub one-kept : (q : ℕ → Bool) (r after : ℕ) (said : Bool) → k < 64 → said ≡ q k
-      → ((j : ℕ) → bit after j ≡ (bit r j || (said && (eqb k j && ltb k 64)))) → (t : ℕ)
-      → (bit after t || (bit b t && q t)) ≡ (bit r t || (bit a t && q t))
-  one-kept q r after said h passes gains t = go (eqb k t) refl
-    where
-      go : (x : Bool) → eqb k t ≡ x → (bit after t || (bit b t && q t)) ≡ (bit r t || (bit a t && q t))
-      go true y = rw (← eqb-true k t y, gains k, rest k, has, eq-eqb k k refl, lt-ltb k 64 h, and-true said, passes) (or-false _)
-      go false y = rw (gains t, rest t, y, and-false said, or-false (bit r t), and-true (bit a t))
-
   -- Member k is taken out unless it passes: what is in and passes or is not left stays the same.
   pub one-dropped : (q : ℕ → Bool) (r after : ℕ) (said : Bool) → said ≡ q k
       → ((j : ℕ) → bit after j ≡ (bit r j && not (not said && eqb k j))) → (t : ℕ)
@@ -88,15 +53,13 @@ module _ (a k b : ℕ) (rest : (j : ℕ) → bit b j ≡ (bit a j && not (eqb k 
       go true y = rw (← eqb-true k t y, loses k, rest k, has, eq-eqb k k refl, ← passes) (here (bit r k) said)
       go false y = rw (loses t, rest t, y, and-false (not said), and-true (bit r t), and-true (bit a t))
 
--- Where nothing is wanted all is as wanted.
-pub unasked : (truths falses word : ℕ) → not (eqb truths 0 && eqb falses 0) ≡ false → as-asked truths falses word ≡ true
+-- Where no condition is looked at all is as wanted.
+pub unasked : (looks truths word : ℕ) → not (eqb looks 0) ≡ false → as-asked looks truths word ≡ true
 unfolding as-asked
-unasked truths falses word e =
-    let none = not-false (eqb truths 0 && eqb falses 0) e in
-    Rattle.meaning.proofs.Bool.and-true (ap not (none-intro 64 (λ k. bit truths k && not (bit word k)) (λ k h. rw (eqb-true truths 0 (and-left _ (eqb falses 0) none), bit-zero k))))
-    (ap not (none-intro 64 (λ k. bit falses k && bit word k) (λ k h. rw (eqb-true falses 0 (and-right (eqb truths 0) _ none), bit-zero k))))
+unasked looks truths word e =
+    ap not (none-intro 64 (λ k. bit looks k && cond (bit truths k) (not (bit word k)) (bit word k)) (λ k h. rw (eqb-true looks 0 (not-false _ e), bit-zero k)))
 
--- So asking only where something is wanted asks all, once nothing is left.
+-- So asking only where something is looked at asks all, once nothing is left.
 pub all-asked : (before conditional left able t : ℕ) (q : Bool) → left ≡ 0 → (bit conditional t ≡ false → q ≡ true)
     → (bit able t && (not (bit left t) || q)) ≡ (bit before t && (not (bit (bitAnd before conditional) t) || q)) → bit able t ≡ (bit before t && q)
 all-asked before conditional left able t q e free same =

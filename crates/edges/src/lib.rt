@@ -1,11 +1,10 @@
 // The two edges of a cycle: the counters after the falling edge, and the set of the transitions that are firable at the rising edge.
 ghost use mathlib.Core.Path.{_≡_};
-ghost use mathlib.Core.Bool.{cond, not, _&&_};
-ghost use Prim.Native.Nat.{ℕ, suc, _≤_, _<_};
+ghost use mathlib.Core.Bool.{true, false, cond, not};
+ghost use Prim.Native.Nat.{ℕ, suc, _+_, _≤_, _<_};
 ghost use lib.Dec.{eqb};
 ghost use lib.ListN.{length, getD, replicate};
 ghost use Rattle.meaning.specs.Bytes.{bit};
-ghost use Rattle.net.specs.Rows.{Blank-from};
 ghost use Rattle.edges.specs.Edges.{as-asked, raised, in-span, Limits, Raises, Ready, Able};
 
 // How far a counter of this sort, a and b rises: of sort 1 to b + 1, of any other to a.
@@ -44,23 +43,16 @@ pub fn limits(
     }
 }
 
-// Is any condition wanted true or wanted false?
-fn wanted(truths: u64, falses: u64) -> bool
-    ensures { λ r. ⌜ r ≡ not (eqb truths 0 && eqb falses 0) ⌝ }
-{
-    if truths == 0 { falses != 0 } else { true }
-}
-
-// The transitions that have conditions. From n on none has.
-pub fn conditional(truths: &[u64], falses: &[u64], n: usize) -> u64
-    requires { ⌜ (64 ≤ length (now truths)) × (64 ≤ length (now falses)) ⌝ }
-    requires { ⌜ Blank-from 64 n (now truths) × Blank-from 64 n (now falses) ⌝ }
-    ensures { λ r. ⌜ ((t : ℕ) → t < 64 → bit r t ≡ not (eqb (getD (now (truths .entry)) t 0) 0 && eqb (getD (now (falses .entry)) t 0) 0)) ⌝ }
+// The transitions that have conditions: row 448 + t of the index has those that transition t looks at. From n on none has.
+pub fn conditional(index: &[u64], n: usize) -> u64
+    requires { ⌜ (768 ≤ length (now index)) × (n ≤ 64) ⌝ }
+    requires { ⌜ ((t y : ℕ) → n ≤ t → t < 64 → y < 64 → bit (getD (now index) (448 + t) 0) y ≡ false) ⌝ }
+    ensures { λ r. ⌜ ((t : ℕ) → t < 64 → bit r t ≡ not (eqb (getD (now (index .entry)) (448 + t) 0) 0)) ⌝ }
 {
     let mut r = 0u64;
     let mut t = 0;
     while t < n {
-        if wanted(truths[t], falses[t]) {
+        if index[448 + t] != 0 {
             r = sets::with(r, t);
         }
         t += 1;
@@ -122,15 +114,12 @@ pub fn fall(
     ready
 }
 
-// Are the conditions wanted true all in the word, and those wanted false all out of it?
-fn asked(truths: u64, falses: u64, word: u64) -> bool
-    ensures { λ r. ⌜ r ≡ as-asked truths falses word ⌝ }
+// Are the conditions that are looked at as wanted: those wanted true all in the word, the others out of it?
+fn asked(looks: u64, truths: u64, word: u64) -> bool
+    requires { ⌜ ((k : ℕ) → k < 64 → bit truths k ≡ true → bit looks k ≡ true) ⌝ }
+    ensures { λ r. ⌜ r ≡ as-asked looks truths word ⌝ }
 {
-    if truths & word == truths {
-        falses & word == 0
-    } else {
-        false
-    }
+    looks & word == truths
 }
 
 // The firable: enabled and untimed, or ready, and the conditions as wanted, which are asked only where there are any.
@@ -139,18 +128,19 @@ pub fn firable(
     timed: u64,
     ready: u64,
     conditional: u64,
+    index: &[u64; 768],
     truths: &[u64; 128],
-    falses: &[u64; 128],
     word: u64,
 ) -> u64
-    requires { ⌜ ((t : ℕ) → t < 64 → bit conditional t ≡ not (eqb (getD (now truths) t 0) 0 && eqb (getD (now falses) t 0) 0)) ⌝ }
-    ensures { λ r. ⌜ Able on timed ready (now (truths .entry)) (now (falses .entry)) word r ⌝ }
+    requires { ⌜ ((t : ℕ) → t < 64 → bit conditional t ≡ not (eqb (getD (now index) (448 + t) 0) 0)) ⌝ }
+    requires { ⌜ ((t k : ℕ) → t < 64 → k < 64 → bit (getD (now truths) t 0) k ≡ true → bit (getD (now index) (448 + t) 0) k ≡ true) ⌝ }
+    ensures { λ r. ⌜ Able on timed ready (now (index .entry)) (now (truths .entry)) word r ⌝ }
 {
     let mut able = sets::union(sets::less(on, timed), ready);
     let mut left = able & conditional;
     while left != 0 {
         let t = sets::lowest(left);
-        if !asked(truths[t], falses[t], word) {
+        if !asked(index[448 + t], truths[t], word) {
             able = sets::without(able, t);
         }
         left = sets::rest(left);

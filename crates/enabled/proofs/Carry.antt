@@ -5,7 +5,7 @@ use mathlib.Core.List.{List}
 use mathlib.Core.Path.{_≡_, refl, sym, ap, _∙_}
 use Prim.Native.Nat.{ℕ, _+_, _-_, _≤_, _<_}
 use native.Mathlib.Omega.{arith}
-use lib.Dec.{leb, ltb, eqb}
+use lib.Dec.{ltb, eqb}
 use lib.ListN.{getD}
 use borrow.Author.Tests.{ltb-true, ltb-false, eqb-true, eqb-false, lt-ltb, le-ltb, eq-eqb, ne-eqb, not-true}
 use Rattle.meaning.specs.Below.{some, every}
@@ -23,12 +23,12 @@ use Rattle.net.proofs.Carry.{latest-is}
 use Rattle.table.specs.Index.{row}
 use Rattle.table.proofs.Carry.{Clean}
 use Rattle.table.proofs.Rows.{kind-of, Spot, spot, row-test, beq-true}
-use Rattle.enabled.specs.Held.{Empty-from, Levels, held-by, shown-by}
+use Rattle.enabled.specs.Held.{Empty-from, Levels, held-by}
 use Rattle.enabled.specs.Inputs.{Inputs, Inputs-of, in-words, stops-at, enabled-by}
 use Rattle.enabled.proofs.Held.{at-most, held-now, shown-now}
 
 -- Four tests pass together, so each does.
-each : (a b c d : Bool) → (a && b && c && d) ≡ true → (a ≡ true) × (b ≡ true) × (c ≡ true) × (d ≡ true)
+pub each : (a b c d : Bool) → (a && b && c && d) ≡ true → (a ≡ true) × (b ≡ true) × (c ≡ true) × (d ≡ true)
 each a b c d e =
     let abc = and-left (a && b && c) d e in
     let ab = and-left (a && b) c abc in
@@ -46,8 +46,22 @@ abbrev pub Arc : Table → ℕ → ℕ → Type 0
 Arc tb t r = (r < tb .records) × (tb .kind r ≡ 3) × (tb .sort r < 3) × (tb .two r ≡ t)
 
 -- Record r is an input arc from place p to transition t, by tests.
-abbrev from-to : Table → ℕ → ℕ → ℕ → Bool
+abbrev pub from-to : Table → ℕ → ℕ → ℕ → Bool
 from-to tb p t r = is tb 3 r && not (post tb r) && eqb (tb .one r) p && eqb (tb .two r) t
+
+-- Row 192 + p has t exactly if some input arc comes from place p to t.
+module _ (tb : Table) (index : List ℕ) (clean : Clean tb index) (t : ℕ) (ht : t < 64) where
+  pub row-same : (p : ℕ) → p < 128 → bit (getD index (192 + p) 0) t ≡ some (tb .records) (from-to tb p t)
+  unfolding row faulty
+  row-same p h =
+      clean .index .holds (192 + p) t (omega arith) ht
+      ∙ some-same (tb .records) _ (from-to tb p t)
+      (λ r l.
+      let z = spot (shown r l) in
+      ap (λ (b : Bool). b && eqb (tb .two r) t) (row-test z 2 p (omega arith) h ∙ ap (λ (b : Bool). b && eqb (tb .one r) p) (input-is z)))
+    where
+      shown : (r : ℕ) → r < tb .records → Shows tb r
+      shown r l = faultless tb r (rw (clean .fine r l)) .0
 
 module _ (tb : Table) (w s : List (List ℕ)) (index : List ℕ) (x : Inputs) (gw : Weights tb w) (gs : Sorts tb s) (clean : Clean tb index)
     (gx : Inputs-of index x)
@@ -55,14 +69,14 @@ module _ (tb : Table) (w s : List (List ℕ)) (index : List ℕ) (x : Inputs) (g
     (single : (r q : ℕ) → r < tb .records → q < tb .records → tb .kind r ≡ 3 → tb .kind q ≡ 3 → tb .sort r < 3 → tb .sort q < 3
     → tb .one r ≡ tb .one q → tb .two r ≡ tb .two q → r ≡ q) (t : ℕ) (ht : t < 64) where
   -- An arc that is no post arc is an input arc.
-  arc-of : (r : ℕ) → r < tb .records → is tb 3 r ≡ true → not (post tb r) ≡ true → eqb (tb .two r) t ≡ true → Arc tb t r
+  pub arc-of : (r : ℕ) → r < tb .records → is tb 3 r ≡ true → not (post tb r) ≡ true → eqb (tb .two r) t ≡ true → Arc tb t r
   arc-of r h k n e =
       let kind : tb .kind r ≡ 3 = eqb-true (tb .kind r) 3 k in
       let other : ¬ (tb .sort r ≡ 3) = eqb-false (tb .sort r) 3 (rw k at (not-true (post tb r) n)) in
       (h, kind, omega (arith, arcs r h kind .3), eqb-true (tb .two r) t e)
 
   -- And an input arc comes from its place to its transition.
-  comes : (r : ℕ) → Arc tb t r → from-to tb (tb .one r) t r ≡ true
+  pub comes : (r : ℕ) → Arc tb t r → from-to tb (tb .one r) t r ≡ true
   comes r a =
       rw (
         eq-eqb (tb .kind r) 3 (a .1),
@@ -103,19 +117,6 @@ module _ (tb : Table) (w s : List (List ℕ)) (index : List ℕ) (x : Inputs) (g
         at-most (tb .four r) (getD m (tb .one r) 0),
       )
 
-  -- Row 192 + p has t exactly if some input arc comes from place p to t.
-  row-same : (p : ℕ) → p < 128 → bit (getD index (192 + p) 0) t ≡ some (tb .records) (from-to tb p t)
-  unfolding row faulty
-  row-same p h =
-      clean .index .holds (192 + p) t (omega arith) ht
-      ∙ some-same (tb .records) _ (from-to tb p t)
-      (λ r l.
-      let z = spot (shown r l) in
-      ap (λ (b : Bool). b && eqb (tb .two r) t) (row-test z 2 p (omega arith) h ∙ ap (λ (b : Bool). b && eqb (tb .one r) p) (input-is z)))
-    where
-      shown : (r : ℕ) → r < tb .records → Shows tb r
-      shown r l = faultless tb r (rw (clean .fine r l)) .0
-
   -- So has place p in t's words.
   pub in-row : (p : ℕ) → p < 128 → in-words (getD (x .low) t 0) (getD (x .high) t 0) p ≡ bit (getD index (192 + p) 0) t
   in-row p h = go (ltb p 64) refl
@@ -127,12 +128,12 @@ module _ (tb : Table) (w s : List (List ℕ)) (index : List ℕ) (x : Inputs) (g
           gx .high t (p - 64) ht (omega arith) ∙ rw past
 
   words-same : (p : ℕ) → p < 128 → in-words (getD (x .low) t 0) (getD (x .high) t 0) p ≡ some (tb .records) (from-to tb p t)
-  words-same p h = in-row p h ∙ row-same p h
+  words-same p h = in-row p h ∙ row-same tb index clean t ht p h
 
   -- Where row 192 + p has t, the cell is an arc's: it has a weight, and the sort of an input arc.
   pub arc-cell : (p : ℕ) → p < 128 → bit (getD index (192 + p) 0) t ≡ true → (1 ≤ cell w p t) × (cell s p t < 3)
   arc-cell p h e =
-      let r = some-elim (tb .records) (from-to tb p t) (sym (row-same p h) ∙ e) in
+      let r = some-elim (tb .records) (from-to tb p t) (sym (row-same tb index clean t ht p h) ∙ e) in
       let q = each (is tb 3 (r .0)) (not (post tb (r .0))) (eqb (tb .one (r .0)) p) (eqb (tb .two (r .0)) t) (r .2) in
       let a = arc-of (r .0) (r .1) (q .0) (q .1) (q .3) in
       let c = cell-of (r .0) a in

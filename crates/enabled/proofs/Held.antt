@@ -1,6 +1,6 @@
 -- What the rows of a place's arcs say of whom its tokens hold back, on their level.
-use mathlib.Core.Bool.{Bool, true, false, cond, not, _&&_, _||_, and-true, and-false, or-false}
-use mathlib.Core.List.{List, []}
+use mathlib.Core.Bool.{Bool, true, false, cond, not, _&&_, _||_}
+use mathlib.Core.List.{List}
 use mathlib.Core.Path.{_≡_, refl, sym, ap, _∙_}
 use Prim.Native.Nat.{ℕ, _+_, _^_, _≤_, _<_}
 use native.Mathlib.Omega.{arith}
@@ -8,11 +8,11 @@ use lib.Dec.{leb, ltb, eqb}
 use lib.ListN.{length, getD, set, replicate, length-replicate, getD-replicate, List·getD-eq-default}
 use lib.Seq.{getD-set-same, getD-set-other}
 use borrow.Author.Tests.{eqb-true, eqb-false, ltb-true, ltb-false, lt-ltb, le-ltb, lt-leb, le-leb, eq-eqb, ne-eqb}
-use Rattle.meaning.specs.Bytes.{bit, bits}
+use Rattle.meaning.specs.Bytes.{bit}
 use Rattle.sets.proofs.Bits.{bit-zero, bits-bit, bits-low, same-set}
 use Rattle.net.specs.Rows.{cell}
 use Rattle.enabled.specs.declared.Level.{Level}
-use Rattle.enabled.specs.Held.{Sorted, held-by, shown-by, Spans, Levels, Moves-to}
+use Rattle.enabled.specs.Held.{Curbed, plain, held-by, shown-by, Spans, Levels, Moves-to}
 
 -- At most is not above.
 pub at-most : (a b : ℕ) → leb a b ≡ not (ltb b a)
@@ -45,40 +45,51 @@ emptied tokens from upto k = go (eqb tokens 0)
     go true low high l h = eq-eqb k 0 (omega (arith, high, h))
     go false low high l h = ne-eqb k 0 (λ e. omega (arith, low, l))
 
-module _ {index : List ℕ} {s : List (List ℕ)} {plain curbs : List ℕ} (sorted : Sorted index s plain curbs) (p : ℕ) (h : p < 128) where
-  -- Whoever is short of the weight of a basic or test arc, or is not of an inhibitor arc's, is whom the place holds back.
+module _ {index : List ℕ} {s : List (List ℕ)} {curbs : List ℕ} (curbed : Curbed index s curbs) (p : ℕ) (h : p < 128) where
+  -- Whoever is short of a weight and has no inhibitor arc, or has one and is not short, is whom the place holds back.
   pub row-held : (w : List (List ℕ)) (k short r : ℕ) → r < 2 ^ 64
       → ((t : ℕ) → bit short t ≡ (bit (getD index (192 + p) 0) t && ltb k (cell w p t)))
-      → ((t : ℕ) → bit r t ≡ ((bit short t && bit (getD plain p 0) t) || (bit (getD curbs p 0) t && not (bit short t))))
+      → ((t : ℕ) → bit r t ≡ ((bit short t && not (bit (getD curbs p 0) t)) || (bit (getD curbs p 0) t && not (bit short t))))
       → r ≡ held-by index w s k p
   unfolding held-by
   row-held w k short r low lacks is =
       same-set r _ low (bits-low _)
       (λ t l.
-      is t ∙ rw (lacks t, sorted .plain-is p t h, sorted .curbs-is p t h, at-most (cell w p t) k)
+      is t ∙ rw (lacks t, curbed .curbs-is p t h l, at-most (cell w p t) k)
       (go (bit (getD index (192 + p) 0) t) (eqb (cell s p t) 2) (ltb k (cell w p t))) ∙ sym (bits-bit _ t l))
     where
-      go : (a b x : Bool) → (((a && x) && (a && not b)) || ((a && b) && not (a && x))) ≡ (a && cond b (not x) x)
+      go : (a b x : Bool) → (((a && x) && not (a && b)) || ((a && b) && not (a && x))) ≡ (a && cond b (not x) x)
       go true true true = refl
       go true true false = refl
       go true false true = refl
       go true false false = refl
       go false b x = refl
 
-  -- Of those with a basic or test arc, the place holds back whom its tokens do not suffice.
+  -- Of those without an inhibitor arc, the place holds back who has a basic or test arc for which its tokens do not suffice.
   pub plain-held : (w : List (List ℕ)) (k t : ℕ) → t < 64
-      → (bit (held-by index w s k p) t && bit (getD plain p 0) t) ≡ (bit (getD plain p 0) t && ltb k (cell w p t))
+      → (bit (held-by index w s k p) t && not (bit (getD curbs p 0) t)) ≡ (plain index curbs p t && ltb k (cell w p t))
   unfolding held-by
   plain-held w k t l =
-      rw (bits-bit (λ t. bit (getD index (192 + p) 0) t && cond (eqb (cell s p t) 2) (leb (cell w p t) k) (ltb k (cell w p t))) t l, sorted .plain-is p t h)
+      rw (
+        bits-bit (λ t. bit (getD index (192 + p) 0) t && cond (eqb (cell s p t) 2) (leb (cell w p t) k) (ltb k (cell w p t))) t l,
+        curbed .curbs-is p t h l,
+      )
       (go (bit (getD index (192 + p) 0) t) (eqb (cell s p t) 2) _ _)
     where
-      go : (a b x y : Bool) → ((a && cond b x y) && (a && not b)) ≡ ((a && not b) && y)
+      go : (a b x y : Bool) → ((a && cond b x y) && not (a && b)) ≡ ((a && not (a && b)) && y)
       go true true true y = refl
       go true true false y = refl
       go true false x true = refl
       go true false x false = refl
       go false b x y = refl
+
+  -- A basic or test arc is an arc that is no inhibitor arc.
+  pub plain-is : (t : ℕ) → t < 64 → plain index curbs p t ≡ (bit (getD index (192 + p) 0) t && not (eqb (cell s p t) 2))
+  plain-is t l = rw (curbed .curbs-is p t h l) (go (bit (getD index (192 + p) 0) t) (eqb (cell s p t) 2))
+    where
+      go : (a b : Bool) → (a && not (a && b)) ≡ (a && not b)
+      go true b = refl
+      go false b = refl
 
 -- A place without arcs holds nobody back.
 pub none-held : (index : List ℕ) (w s : List (List ℕ)) (k p : ℕ) → getD index (192 + p) 0 ≡ 0 → held-by index w s k p ≡ 0

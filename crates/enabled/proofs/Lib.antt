@@ -3,3 +3,4 @@ pub mod Walk
 pub mod Words
 pub mod Carry
 pub mod Held
+pub mod Laid

@@ -1,5 +1,5 @@
 -- Whom the tokens of a place hold back and what they show, and between which numbers of tokens that stays the same.
-use mathlib.Core.Bool.{true, cond, not, _&&_, _||_}
+use mathlib.Core.Bool.{Bool, true, cond, not, _&&_, _||_}
 use mathlib.Core.List.{List}
 use mathlib.Core.Path.{_≡_}
 use Prim.Native.Nat.{ℕ, _+_, _≤_, _<_}
@@ -15,10 +15,13 @@ pub record Empty-from (index : List ℕ) (n : ℕ) : Type 0 where
   pub no-arc : (p : ℕ) → n ≤ p → p < 128 → getD index (192 + p) 0 ≡ 0
   pub no-action : (p : ℕ) → n ≤ p → p < 128 → getD index (576 + p) 0 ≡ 0
 
--- The arcs from each place: the basic and test arcs, and the inhibitor arcs.
-pub record Sorted (index : List ℕ) (s : List (List ℕ)) (plain curbs : List ℕ) : Type 0 where
-  pub plain-is : (p t : ℕ) → p < 128 → bit (getD plain p 0) t ≡ (bit (getD index (192 + p) 0) t && not (eqb (cell s p t) 2))
-  pub curbs-is : (p t : ℕ) → p < 128 → bit (getD curbs p 0) t ≡ (bit (getD index (192 + p) 0) t && eqb (cell s p t) 2)
+-- Who has an inhibitor arc from each place.
+pub record Curbed (index : List ℕ) (s : List (List ℕ)) (curbs : List ℕ) : Type 0 where
+  pub curbs-is : (p t : ℕ) → p < 128 → t < 64 → bit (getD curbs p 0) t ≡ (bit (getD index (192 + p) 0) t && eqb (cell s p t) 2)
+
+-- Transition t has a basic or test arc from place p.
+abbrev pub plain : List ℕ → List ℕ → ℕ → ℕ → Bool
+plain index curbs p t = bit (getD index (192 + p) 0) t && not (bit (getD curbs p 0) t)
 
 -- Every input arc has a weight.
 pub record Weighty (index : List ℕ) (w : List (List ℕ)) : Type 0 where

@@ -1,10 +1,10 @@
 -- The places that a transition's input arcs come from, and whether all of them are met.
-use mathlib.Core.Bool.{Bool, cond, not, _&&_, _||_}
+use mathlib.Core.Bool.{Bool, cond, not, _&&_}
 use mathlib.Core.List.{List}
 use mathlib.Core.Path.{_≡_}
 use Prim.Native.Nat.{ℕ, _+_, _-_, _<_}
 use lib.Dec.{leb, ltb, eqb}
-use lib.ListN.{length, getD}
+use lib.ListN.{getD}
 use Rattle.meaning.specs.Below.{some}
 use Rattle.meaning.specs.Bytes.{bit}
 use Rattle.net.specs.Rows.{cell}
@@ -18,15 +18,6 @@ pub record Inputs : Type 0 where
 pub record Inputs-of (index : List ℕ) (x : Inputs) : Type 0 where
   pub low : (t p : ℕ) → t < 64 → p < 64 → bit (getD (x .low) t 0) p ≡ bit (getD index (192 + p) 0) t
   pub high : (t p : ℕ) → t < 64 → p < 64 → bit (getD (x .high) t 0) p ≡ bit (getD index (192 + (64 + p)) 0) t
-
--- What is added: place p to the word of each transition of the row.
-pub record Spread (words : List ℕ) (row p : ℕ) (after : List ℕ) : Type 0 where
-  pub size : length after ≡ 64
-  pub holds : (t j : ℕ) → t < 64 → bit (getD after t 0) j ≡ (bit (getD words t 0) j || (bit row t && (eqb p j && ltb p 64)))
-
--- Bit p of a transition's word: row p of the index, from the first row on, has the transition.
-pub record Half (index : List ℕ) (from : ℕ) (words : List ℕ) : Type 0 where
-  pub holds : (t p : ℕ) → t < 64 → p < 64 → bit (getD words t 0) p ≡ bit (getD index (from + p) 0) t
 
 -- Place p is in the two words.
 abbrev pub in-words : ℕ → ℕ → ℕ → Bool

@@ -1,5 +1,5 @@
 // Enabled by a marking: whom the tokens of each place hold back and which actions they show, kept place by place.
-ghost use mathlib.Core.Bool.{true, false, cond, not, _&&_, _||_};
+ghost use mathlib.Core.Bool.{true, cond, not, _&&_, _||_};
 ghost use mathlib.Core.Path.{_≡_};
 ghost use Prim.Native.Nat.{ℕ, _+_, _≤_, _<_};
 ghost use lib.Dec.{leb, ltb, eqb};
@@ -7,47 +7,7 @@ ghost use lib.ListN.{length, getD, replicate};
 ghost use Rattle.meaning.specs.Below.{some};
 ghost use Rattle.meaning.specs.Bytes.{bit};
 ghost use Rattle.table.specs.Index.{Reaches};
-ghost use Rattle.enabled.specs.Inputs.{Inputs-of, Spread, Half};
-ghost use Rattle.enabled.specs.Held.{Empty-from, Sorted, Narrowed, Level-of, Spans, Four, Moves-to, Levels};
-
-// Adds place p to each transition of a row.
-fn spread(words: &mut [u64; 64], row: u64, p: usize)
-    requires { ⌜ length (now words) ≡ 64 ⌝ }
-    ensures { λ _. ⌜ Spread (now (words .entry)) row p (now (words .exit)) ⌝ }
-{
-    let mut left = row;
-    while left != 0 {
-        let t = sets::lowest(left);
-        words[t] = sets::with(words[t], p);
-        left = sets::rest(left);
-    }
-}
-
-// For each transition the places of 64 rows of the index, from the first row on, that have it. Of these, the rows from `count` on are empty; the
-// words are lent empty.
-fn half(index: &[u64; 768], from: usize, count: usize, words: &mut [u64; 64])
-    requires { ⌜ (from ≤ 704) × (count ≤ 64) × (now words ≡ replicate 64 0) ⌝ }
-    requires { ⌜ ((i y : ℕ) → count ≤ i → i < 64 → y < 64 → bit (getD (now index) (from + i) 0) y ≡ false) ⌝ }
-    ensures { λ _. ⌜ Half (now (index .entry)) from (now (words .exit)) ⌝ }
-{
-    let mut p = 0;
-    while p < count {
-        spread(words, index[from + p], p);
-        p += 1;
-    }
-}
-
-// For each transition the places with an input arc to it, out of the index, whose rows 192 to 319 hold the arcs place by place: places 0 to 63, and
-// places 64 to 127. The index goes no further than n; the words are lent empty.
-pub fn inputs_of(index: &[u64; 768], n: usize, low: &mut [u64; 64], high: &mut [u64; 64])
-    requires { ⌜ Reaches (now index) n ⌝ }
-    requires { ⌜ (now low ≡ replicate 64 0) × (now high ≡ replicate 64 0) ⌝ }
-    ensures { λ _. ⌜ Inputs-of (now (index .entry)) (record { low = now (low .exit); high = now (high .exit) }) ⌝ }
-{
-    let first = table::transitions(n);
-    half(index, 192, first, low);
-    half(index, 256, n - first, high);
-}
+ghost use Rattle.enabled.specs.Held.{Empty-from, Curbed, Narrowed, Level-of, Spans, Four, Moves-to, Levels};
 
 // Does an arc of this weight and sort stop its transition, with so many tokens on its place?
 pub fn stops(tokens: u32, weight: u16, sort: u8) -> bool
@@ -58,43 +18,6 @@ pub fn stops(tokens: u32, weight: u16, sort: u8) -> bool
         wanted <= tokens
     } else {
         tokens < wanted
-    }
-}
-
-// Of those with an arc from a place, whose arc is an inhibitor arc.
-fn curbs_of(arcs: u64, s: &[u8; 64]) -> u64
-    ensures { λ r. ⌜ ((t : ℕ) → bit r t ≡ (bit arcs t && eqb (getD (now (s .entry)) t 0) 2)) ⌝ }
-{
-    let mut r = 0u64;
-    let mut left = arcs;
-    while left != 0 {
-        let t = sets::lowest(left);
-        r = with_if(r, t, s[t] == 2);
-        left = sets::rest(left);
-    }
-    r
-}
-
-// The arcs from each place by what they ask: who has a basic or test arc from it, and who has an inhibitor arc. The rows are lent empty; from
-// row n on there is no arc.
-pub fn sort_arcs(
-    plain: &mut [u64; 128],
-    curbs: &mut [u64; 128],
-    index: &[u64; 768],
-    s: &[[u8; 64]; 128],
-    n: usize,
-)
-    requires { ⌜ (now plain ≡ replicate 128 0) × (now curbs ≡ replicate 128 0) ⌝ }
-    requires { ⌜ Empty-from (now index) n ⌝ }
-    ensures { λ _. ⌜ Sorted (now (index .entry)) (now (s .entry)) (now (plain .exit)) (now (curbs .exit)) ⌝ }
-{
-    let mut p = 0;
-    while p < n {
-        let arcs = index[192 + p];
-        let stoppers = curbs_of(arcs, &s[p]);
-        plain[p] = sets::less(arcs, stoppers);
-        curbs[p] = stoppers;
-        p += 1;
     }
 }
 
@@ -194,7 +117,6 @@ fn relevel(
     p: usize,
     tokens: u32,
     index: &[u64; 768],
-    plain: &[u64; 128],
     curbs: &[u64; 128],
     w: &[[u16; 64]; 128],
     s: &[[u8; 64]; 128],
@@ -204,13 +126,13 @@ fn relevel(
     upto: &mut [u32; 128],
 )
     requires { ⌜ (p < 128) × (tokens < 4294967295) ⌝ }
-    requires { ⌜ Sorted (now index) (now s) (now plain) (now curbs) ⌝ }
+    requires { ⌜ Curbed (now index) (now s) (now curbs) ⌝ }
     requires { ⌜ Four (now held) (now shown) (now from) (now upto) ⌝ }
     ensures { λ _. ⌜ Moves-to (now (index .entry)) (now (w .entry)) (now (s .entry)) p tokens (now (held .entry)) (now (shown .entry)) (now (from .entry)) (now (upto .entry)) (now (held .exit)) (now (shown .exit)) (now (from .exit)) (now (upto .exit)) ⌝ }
 {
     let x = level_of(tokens, index[192 + p], &w[p]);
     let short = x.short;
-    held[p] = sets::union(short & plain[p], sets::less(curbs[p], short));
+    held[p] = sets::union(sets::less(short, curbs[p]), sets::less(curbs[p], short));
     shown[p] = shows(tokens, index[576 + p]);
     from[p] = x.from;
     upto[p] = x.upto;
@@ -221,7 +143,6 @@ pub fn shift(
     p: usize,
     tokens: u32,
     index: &[u64; 768],
-    plain: &[u64; 128],
     curbs: &[u64; 128],
     w: &[[u16; 64]; 128],
     s: &[[u8; 64]; 128],
@@ -231,25 +152,13 @@ pub fn shift(
     upto: &mut [u32; 128],
 )
     requires { ⌜ (p < 128) × (tokens < 4294967295) ⌝ }
-    requires { ⌜ Sorted (now index) (now s) (now plain) (now curbs) ⌝ }
+    requires { ⌜ Curbed (now index) (now s) (now curbs) ⌝ }
     requires { ⌜ Four (now held) (now shown) (now from) (now upto) ⌝ }
     requires { ⌜ Spans (now index) (now w) (now s) p (getD (now held) p 0) (getD (now shown) p 0) (getD (now from) p 0) (getD (now upto) p 0) ⌝ }
     ensures { λ _. ⌜ Moves-to (now (index .entry)) (now (w .entry)) (now (s .entry)) p tokens (now (held .entry)) (now (shown .entry)) (now (from .entry)) (now (upto .entry)) (now (held .exit)) (now (shown .exit)) (now (from .exit)) (now (upto .exit)) ⌝ }
 {
     if outside(tokens, from[p], upto[p]) {
-        relevel(
-            p,
-            tokens,
-            index,
-            plain,
-            curbs,
-            w,
-            s,
-            held,
-            shown,
-            from,
-            upto,
-        );
+        relevel(p, tokens, index, curbs, w, s, held, shown, from, upto);
     }
 }
 
@@ -257,7 +166,6 @@ pub fn shift(
 pub fn hold(
     m: &[u32; 128],
     index: &[u64; 768],
-    plain: &[u64; 128],
     curbs: &[u64; 128],
     w: &[[u16; 64]; 128],
     s: &[[u8; 64]; 128],
@@ -268,14 +176,14 @@ pub fn hold(
     upto: &mut [u32; 128],
 )
     requires { ⌜ (now held ≡ replicate 128 0) × (now shown ≡ replicate 128 0) × (now from ≡ replicate 128 0) × (now upto ≡ replicate 128 4294967295) ⌝ }
-    requires { ⌜ Sorted (now index) (now s) (now plain) (now curbs) ⌝ }
+    requires { ⌜ Curbed (now index) (now s) (now curbs) ⌝ }
     requires { ⌜ Empty-from (now index) n ⌝ }
     requires { ⌜ ((p : ℕ) → p < 128 → getD (now m) p 0 < 4294967295) ⌝ }
     ensures { λ _. ⌜ Levels (now (index .entry)) (now (w .entry)) (now (s .entry)) (now (m .entry)) (now (held .exit)) (now (shown .exit)) (now (from .exit)) (now (upto .exit)) ⌝ }
 {
     let mut p = 0;
     while p < n {
-        relevel(p, m[p], index, plain, curbs, w, s, held, shown, from, upto);
+        relevel(p, m[p], index, curbs, w, s, held, shown, from, upto);
         p += 1;
     }
 }

@@ -1,8 +1,8 @@
 -- Answers 10, 11 and 12 one after the other, and what is known of the lent bytes where none is given.
-use mathlib.Core.Bool.{Bool, true, false, not, _||_, or-true}
-use mathlib.Core.List.{List, [], _∷_, _++_}
+use mathlib.Core.Bool.{not, or-true}
+use mathlib.Core.List.{List, _∷_, _++_}
 use mathlib.Core.Logic.{_≢_}
-use mathlib.Core.Path.{_≡_, refl, sym, ap, _∙_}
+use mathlib.Core.Path.{_≡_, refl, _∙_}
 use Prim.Native.Nat.{ℕ, _*_, _/_, _%_, _≤_, _<_}
 use native.Mathlib.Omega.{arith}
 use lib.Dec.{eqb, ltb}

@@ -2,19 +2,20 @@
 use mathlib.Core.List.{List, _++_, append-assoc}
 use mathlib.Core.Logic.{_≢_}
 use mathlib.Core.Path.{_≡_, refl, sym, ap, _∙_}
-use Prim.Native.Nat.{ℕ, _+_, _<_}
-use lib.ListN.{length}
+use Prim.Native.Nat.{ℕ, _+_}
 use Rattle.meaning.specs.Below.{first}
 use Rattle.meaning.specs.Table.{table}
 use Rattle.meaning.specs.Answer.{Answer, accepted, Check, decide}
 use Rattle.meaning.specs.Defined.{table-checks, check}
 use Rattle.meaning.specs.Image.{image, wrong, state-checks}
-use Rattle.meaning.specs.Calls.{run, run-checks, word-checks}
+use Rattle.meaning.specs.Calls.{run-checks, word-checks}
 use Rattle.meaning.specs.Promise.{Ran}
 use Rattle.meaning.proofs.Decide.{decide-append, accepted-clean}
 use Rattle.meaning.proofs.Tables.{table-refusing}
 use Rattle.meaning.proofs.Run.{verdict, run-refused-leaves, run-goes-on}
 use Rattle.cycle.proofs.Facts.{sound, fine}
+use Rattle.table.specs.declared.Pass.{Pass}
+use Rattle.net.specs.Pass.{Arcs, Others}
 use Rattle.net.proofs.Filing.{gathered}
 use Rattle.timing.specs.declared.Intervals.{Intervals}
 use Rattle.timing.specs.Times.{Times-of}
@@ -23,40 +24,48 @@ use Rattle.image.specs.Fit.{wrong-by}
 use Rattle.image.proofs.Carry.{first-wrong-same}
 use Rattle.course.specs.Course.{Read, Ready, Ends}
 use Rattle.course.specs.declared.Ended.{Ended}
-use Rattle.course.proofs.Turns.{no-words}
-use Rattle.engine.specs.declared.Judged.{Judged}
+use Rattle.engine.specs.declared.tables.Judged.{Judged}
 use Rattle.engine.specs.Said.{Judges, lent-checks}
 use Rattle.engine.proofs.Starts.{refused-too, accepted-if}
 use Rattle.engine.proofs.Lent.{lent-same, long-is, fits-is, few-is, room-is}
 
--- The table is accepted: its rows are read.
-module _ (bs : List ℕ) (j : Judged) (index higher takers truths falses sorts a b : List ℕ)
-    (judged : Judges bs j index higher takers truths falses sorts a b) (zero-is : j .number ≡ 0) where
-  abbrev pub x : Intervals
-  x = record { sorts = sorts; a = a; b = b }
+-- The table is accepted: what the pass and the stages have told of its rows.
+pub record Accepted (bs : List ℕ) (s : Pass) (j : Judged) (index higher takers truths heads next sorts a b : List ℕ) : Type 0 where
+  pub judged : Judges bs s j index higher
+  pub arcs : Arcs (table bs) (s .at) takers heads next
+  pub others : Others (table bs) (s .at) truths sorts a b
+  pub zero-is : j .number ≡ 0
 
-  times : Times-of (table bs) x
-  times =
-      let filed = judged .filed zero-is in
-      times-of (filed .timed) (filed .lower) (filed .upper)
+module _ {bs : List ℕ} {s : Pass} {j : Judged} {index higher takers truths heads next sorts a b : List ℕ}
+    (known : Accepted bs s j index higher takers truths heads next sorts a b) where
+  -- The rows hold all records.
+  whole : s .at ≡ table bs .records
+  whole = known .judged .whole (known .zero-is)
+
+  all-arcs : Arcs (table bs) (table bs .records) takers heads next
+  all-arcs = rw whole at (known .arcs)
+
+  all-others : Others (table bs) (table bs .records) truths sorts a b
+  all-others = rw whole at (known .others)
+
+  times : Times-of (table bs) (record { sorts = sorts; a = a; b = b })
+  times = times-of (all-others .timed) (all-others .lower) (all-others .upper)
 
   table-fine : check bs ≡ accepted 0
-  table-fine = accepted-if bs (ap (λ (a : Answer). a .number) (sym (judged .answer)) ∙ zero-is)
+  table-fine = accepted-if bs (ap (λ (a : Answer). a .number) (sym (known .judged .answer)) ∙ known .zero-is)
 
-  pub read : Read bs x index higher takers truths falses (j .reach)
+  pub read : Read bs (record { sorts = sorts; a = a; b = b }) index higher takers truths heads next (j .reach)
   read =
-      let filed = judged .filed zero-is in
       record {
         sound = table-fine;
-        index-holds = judged .indexed zero-is;
-        reaches = judged .reaches zero-is;
-        below = judged .below zero-is;
+        index-holds = known .judged .indexed (known .zero-is);
+        reaches = known .judged .reaches (known .zero-is);
+        below = known .judged .below (known .zero-is);
         times = times;
-        higher-is = judged .higher-is zero-is;
-        bare = judged .bare zero-is;
-        takers-hold = gathered (table bs) 3 0 (filed .taking);
-        truths-hold = gathered (table bs) 4 0 (filed .wanting);
-        falses-hold = gathered (table bs) 4 1 (filed .shunning);
+        higher-is = known .judged .higher-is (known .zero-is);
+        takers-hold = gathered (table bs) 3 0 (all-arcs .taking);
+        truths-hold = gathered (table bs) 4 0 (all-others .wanting);
+        chains = all-arcs .chains;
       }
 
 module _ (bs img ws report : List ℕ) where
@@ -80,17 +89,17 @@ module _ (bs img ws report : List ℕ) where
   refused-by-table e n =
       refuses (in-order ∙ refused-too (table-checks bs) behind (λ z. n (ap (λ (b : Answer). b .number) e ∙ z)) ∙ sym e) n
 
-  module _ (j : Judged) (index higher takers truths falses sorts a b : List ℕ)
-      (judged : Judges bs j index higher takers truths falses sorts a b) (zero-is : j .number ≡ 0) where
+  module _ {s : Pass} {j : Judged} {index higher takers truths heads next sorts a b : List ℕ}
+      (known : Accepted bs s j index higher takers truths heads next sorts a b) where
     abbrev timings : Intervals
-    timings = x bs j index higher takers truths falses sorts a b judged zero-is
+    timings = record { sorts = sorts; a = a; b = b }
 
     accepts : check bs ≡ accepted 0
-    accepts = table-fine bs j index higher takers truths falses sorts a b judged zero-is
+    accepts = table-fine known
 
     same-wrong : first 192 (wrong-by img index timings) ≡ first 192 (wrong (table bs) (image img))
     same-wrong =
-        first-wrong-same (table bs) index (record { fine = fine bs accepts; index = judged .indexed zero-is }) (sound bs accepts) timings (times bs j index higher takers truths falses sorts a b judged zero-is) img
+        first-wrong-same (table bs) index (record { fine = fine bs accepts; index = known .judged .indexed (known .zero-is) }) (sound bs accepts) timings (times known) img
 
     lent-decides : decide (lent-checks img ws report index timings) (accepted 0) ≡ verdict bs img ws report
     unfolding check
@@ -121,7 +130,3 @@ module _ (bs img ws report : List ℕ) where
       ran-through e img′ report′ ends =
           let goes = run-goes-on bs img ws report (ap (λ (a : Answer). a .number) (sym lent-decides) ∙ none) in
           record { answer-is = ends .answer-is ∙ rw goes refl; image-is = ends .image-is ∙ rw goes refl; report-is = ends .report-is ∙ rw goes refl }
-
-      -- There is no word: nothing is done.
-      pub idle : length ws < 8 → Ran bs img ws report (accepted 0) img report
-      idle few = ran-through _ img report (no-words bs img ws report accepts ready few)

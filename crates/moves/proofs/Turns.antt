@@ -69,24 +69,32 @@ module _ (tb : Table) (sort : ℕ) (goal : ℕ → ℕ) (f : ℕ → Bool) (move
       unfolding total
       followed after z = record { size = z .size; moved-is = λ p h. omega (arith, z .adds p h, less-own p, y .moved-is p h) }
 
-      pub fits : ((p : ℕ) → p < 128 → goal p < 4294967296) → Fits tb sort u moved
-      unfolding total
-      fits low = record { size = y .size; fits = λ p h. omega (arith, low p h, less-own p, y .moved-is p h) }
-
 -- In an accepted table an arc's numbers are in range.
-module _ (bs : List ℕ) (e : check bs ≡ accepted 0) (sort : ℕ) where
-  pub in-range : (k : ℕ) → k < table bs .records → arc (table bs) sort k ≡ true
-      → (table bs .one k < 128) × (table bs .two k < 64) × (1 ≤ table bs .four k) × (table bs .four k ≤ 65535)
-  in-range k h here = arc-ranges bs e k h (eqb-true _ _ (and-left (is (table bs) 3 k) (eqb (table bs .sort k) sort) here))
+module _ (bs : List ℕ) (e : check bs ≡ accepted 0) where
+  module _ (sort : ℕ) where
+    pub in-range : (k : ℕ) → k < table bs .records → arc (table bs) sort k ≡ true
+        → (table bs .one k < 128) × (table bs .two k < 64) × (1 ≤ table bs .four k) × (table bs .four k ≤ 65535)
+    in-range k h here = arc-ranges bs e k h (eqb-true _ _ (and-left (is (table bs) 3 k) (eqb (table bs .sort k) sort) here))
 
-  -- So what a set moves is small, and an arc that is still to be moved has room.
-  pub load-low : (all : ℕ → Bool) (p : ℕ) → load (table bs) sort all p < 4294967296
-  load-low all p = omega (arith, load-most (table bs) sort (λ k l h. in-range k l h .3) all p, few-records bs e)
+    -- So what a set moves is small.
+    load-low : (all : ℕ → Bool) (p : ℕ) → load (table bs) sort all p ≤ 67107840
+    load-low all p = omega (arith, load-most (table bs) sort (λ k l h. in-range k l h .3) all p, few-records bs e)
 
-  pub room : (goal : ℕ → ℕ) (todo : ℕ → Bool) (moved : List ℕ) → Tallying (table bs) sort goal todo moved → ((p : ℕ) → p < 128 → goal p < 4294967296)
-      → (r : ℕ) → r < table bs .records → arc (table bs) sort r ≡ true → todo r ≡ true → Room (table bs) r moved
-  room goal todo moved y low r inside here passes =
-      let p : ℕ = table bs .one r in
-      let place = in-range r inside here .0 in
-      let part = load-part (table bs) sort todo p r inside (and-true (and-true here (eq-eqb p p refl)) passes) in
-      record { inside = inside; place = place; fits = omega (arith, low p place, y .moved-is p place, part) }
+    -- An arc that is still to be moved has room.
+    pub room : (goal : ℕ → ℕ) (todo : ℕ → Bool) (moved : List ℕ) → Tallying (table bs) sort goal todo moved → ((p : ℕ) → p < 128 → goal p < 4294967296)
+        → (r : ℕ) → r < table bs .records → arc (table bs) sort r ≡ true → todo r ≡ true → Room (table bs) r moved
+    room goal todo moved y low r inside here passes =
+        let p : ℕ = table bs .one r in
+        let place = in-range r inside here .0 in
+        let part = load-part (table bs) sort todo p r inside (and-true (and-true here (eq-eqb p p refl)) passes) in
+        record { inside = inside; place = place; fits = omega (arith, low p place, y .moved-is p place, part) }
+
+  -- What one transition moves, over arcs of any sort, fits beside what members of a set have moved.
+  pub fits : (sort : ℕ) (all todo : ℕ → Bool) (moved : List ℕ) → Tallying (table bs) sort (load (table bs) sort all) todo moved
+      → (own u : ℕ) → Fits (table bs) own u moved
+  unfolding total
+  fits sort all todo moved y own u =
+      record {
+        size = y .size;
+        fits = λ p h. omega (arith, y .moved-is p h, load-low sort all p, load-low own (λ k. eqb u (table bs .two k)) p);
+      }

@@ -9,7 +9,8 @@ ghost use Rattle.meaning.specs.Below.{sum};
 ghost use Rattle.meaning.specs.Bytes.{bit};
 ghost use Rattle.meaning.specs.Defined.{check};
 ghost use Rattle.meaning.specs.Table.{table};
-ghost use Rattle.net.specs.Chains.{Chained, Touches};
+ghost use Rattle.net.specs.Chains.{Touches};
+ghost use Rattle.net.specs.Links.{Chained};
 ghost use Rattle.moves.specs.Tallied.{Room, carried, Fits, Followed, Unmoved, Tallied};
 
 // A weight as a number of tokens.
@@ -74,22 +75,22 @@ fn add_arc(t: &[u8], moved: &mut [u32; 128], r: usize)
     moved[p] = moved[p] + weight(t, r);
 }
 
-// Adds at each place what transition u moves there over the arcs that `firsts` and `next` chain. `sort` only says, for the contract, of which sort
-// these arcs are.
+// Adds at each place what transition u moves there over its arcs of one sort: `sort` chooses the row of `heads` in which their chain begins, and
+// `next` goes on from arc to arc.
 fn follow(
     t: &[u8],
     moved: &mut [u32; 128],
-    firsts: &[u16; 64],
+    heads: &[u16; 256],
     next: &[u16; 1024],
     u: usize,
     sort: u8,
 )
     requires { ⌜ check (now t) ≡ accepted 0 ⌝ }
-    requires { ⌜ Chained (table (now t)) sort (now firsts) (now next) ⌝ }
-    requires { ⌜ (u < 64) × Fits (table (now t)) sort u (now moved) ⌝ }
+    requires { ⌜ Chained (table (now t)) (now heads) (now next) ⌝ }
+    requires { ⌜ (u < 64) × (sort < 4) × Fits (table (now t)) sort u (now moved) ⌝ }
     ensures { λ _. ⌜ Followed (table (now (t .entry))) sort u (now (moved .entry)) (now (moved .exit)) ⌝ }
 {
-    let mut link = count(firsts[u]);
+    let mut link = count(heads[64 * records::wide(sort) + u]);
     while link != 0 {
         let r = link - 1;
         add_arc(t, moved, r);
@@ -103,22 +104,21 @@ pub struct Moved {
     pub functions: u64,
 }
 
-// Adds up at each place what the members of `set` take there and what they put, over the arcs that `takes`, `puts` and `next` chain; `taken` and
-// `put` are lent empty. `low` and `high` have the places of each transition's arcs, and row 704 + t of the index has the functions of transition t.
+// Adds up at each place what the members of `set` take there and what they put, over the arcs that `heads` and `next` chain; `taken` and `put`
+// are lent empty. `low` and `high` have the places of each transition's arcs, and row 704 + t of the index has the functions of transition t.
 pub fn tally(
     t: &[u8],
     taken: &mut [u32; 128],
     put: &mut [u32; 128],
     set: u64,
-    takes: &[u16; 64],
-    puts: &[u16; 64],
+    heads: &[u16; 256],
     next: &[u16; 1024],
     low: &[u64; 64],
     high: &[u64; 64],
     index: &[u64; 768],
 ) -> Moved
     requires { ⌜ check (now t) ≡ accepted 0 ⌝ }
-    requires { ⌜ Chained (table (now t)) 0 (now takes) (now next) × Chained (table (now t)) 3 (now puts) (now next) ⌝ }
+    requires { ⌜ Chained (table (now t)) (now heads) (now next) ⌝ }
     requires { ⌜ Touches (table (now t)) (table (now t) .records) (now low) (now high) ⌝ }
     requires { ⌜ Unmoved (now taken) × Unmoved (now put) ⌝ }
     ensures { λ x. ⌜ Tallied (table (now (t .entry))) set (now (index .entry)) (now (taken .exit)) (now (put .exit)) x ⌝ }
@@ -137,8 +137,8 @@ pub fn tally(
         };
         at = places::union(at, own);
         functions = sets::union(functions, index[704 + u]);
-        follow(t, taken, takes, next, u, 0);
-        follow(t, put, puts, next, u, 3);
+        follow(t, taken, heads, next, u, 0);
+        follow(t, put, heads, next, u, 3);
     }
     Moved { at, functions }
 }

@@ -17,10 +17,10 @@ use Rattle.meaning.proofs.Decide.{accepted-clean}
 use Rattle.meaning.proofs.Tables.{table-refusing}
 use Rattle.meaning.proofs.Sound.{check-sound}
 
-ranges : {o t s f x : ℕ} → Shown 3 o t s f x → (o < 128) × (t < 64) × (1 ≤ f) × (f ≤ 65535)
+pub ranges : {o t s f x : ℕ} → Shown 3 o t s f x → (o < 128) × (t < 64) × (1 ≤ f) × (f ≤ 65535)
 ranges (Shown.arc a b c d e) = (omega arith, omega arith, d, e)
 
-sort-range : {o t s f x : ℕ} → Shown 3 o t s f x → s ≤ 3
+pub sort-range : {o t s f x : ℕ} → Shown 3 o t s f x → s ≤ 3
 sort-range (Shown.arc a b c d e) = c
 
 module _ (bs : List ℕ) (e : check bs ≡ accepted 0) where

@@ -2,8 +2,11 @@
 pub mod Step
 pub mod Filing
 pub mod Arcs
+pub mod Entering
 pub mod Links
 pub mod Touching
 pub mod Walks
+pub mod Stopping
 pub mod Carry
 pub mod Reach
+pub mod Wanted

@@ -1,20 +1,21 @@
--- A link is to the last number that passes, so one more record either begins its transition's chain or leaves every chain as it was.
-use mathlib.Core.Bool.{Bool, true, false, cond}
+-- A link is to the last number that passes, so one more record either begins the chain of its sort and transition or leaves every chain as it was.
+use mathlib.Core.Bool.{Bool, true, false, cond, _&&_}
 use mathlib.Core.List.{List}
 use mathlib.Core.Logic.{⊎-elim}
 use mathlib.Core.Path.{_≡_, refl, sym, ap, _∙_}
-use Prim.Native.Nat.{ℕ, zero, suc, _+_, _≤_, _<_}
+use Prim.Native.Nat.{ℕ, zero, suc, _+_, _*_, _≤_, _<_}
 use native.Mathlib.Nat.{not-suc-le-zero}
 use native.Mathlib.Numerals.{add-one}
 use native.Mathlib.Omega.{arith}
 use lib.Dec.{eqb}
-use lib.ListN.{length, getD, set, replicate, getD-replicate}
+use lib.ListN.{length, getD, set, replicate, length-set, length-replicate, getD-replicate}
 use lib.Seq.{getD-set-same, getD-set-other}
-use borrow.Author.Tests.{eqb-true, eqb-false, eq-eqb}
-use Rattle.meaning.specs.Table.{Table, is, arc}
-use Rattle.meaning.proofs.Bool.{not-both, and-true}
+use borrow.Author.Tests.{eqb-true, eqb-false, eq-eqb, ne-eqb}
+use Rattle.meaning.specs.Table.{Table}
+use Rattle.meaning.proofs.Bool.{not-both}
 use Rattle.meaning.proofs.Below.{last}
-use Rattle.net.specs.Chains.{link, arc-of, Linked}
+use Rattle.net.specs.Chains.{link, arc-of}
+use Rattle.net.specs.Links.{Linked}
 
 -- A link is to a number below n.
 pub link-le : (n : ℕ) (p : ℕ → Bool) → link n p ≤ n
@@ -48,39 +49,53 @@ link-past (suc n) p r h e = go (λ l. link-past n p r l e) (p n) refl
     go below true q = h
     go below false q = ⊎-elim (λ (z : r ≡ n). not-both e (ap p z ∙ q)) below (last h)
 
-module _ (tb : Table) (sort : ℕ) where
+module _ (tb : Table) where
   -- Before the first record there is no chain.
-  pub linked-none : (next : List ℕ) → Linked tb sort 0 (replicate 64 0) next
+  pub linked-none : (next : List ℕ) → length next ≡ 1024 → Linked tb 0 (replicate 256 0) next
   unfolding link
-  linked-none next = record { begins = λ t h. getD-replicate 64 t 0 0 h; goes-on = λ r h. absurd (not-suc-le-zero h) }
+  linked-none next long =
+      record {
+        many-heads = length-replicate {A = ℕ} 256 0;
+        many-links = long;
+        begins = λ s t l h. getD-replicate 256 (64 * s + t) 0 0 (omega arith);
+        goes-on = λ r h. absurd (not-suc-le-zero h);
+      }
 
-  module _ (r : ℕ) (firsts next : List ℕ) (g : Linked tb sort r firsts next) where
-    -- Record r is no such arc: the chains stay, whatever stands at r.
-    pub linked-same : (after : List ℕ) → ((k : ℕ) → k < r → getD after k 0 ≡ getD next k 0) → arc tb sort r ≡ false → Linked tb sort (r + 1) firsts after
+  module _ (r : ℕ) (heads next : List ℕ) (g : Linked tb r heads next) where
+    -- Record r is no arc: the chains stay.
+    pub linked-same : ¬ (tb .kind r ≡ 3) → Linked tb (r + 1) heads next
     unfolding link
-    linked-same after same none =
+    linked-same none =
         record {
-          begins = λ t h. g .begins t h ∙ rw (add-one r, none);
-          goes-on = λ k h kind is.
-              ⊎-elim (λ (z : k ≡ r). not-both (and-true (eq-eqb _ _ (ap (tb .kind) (sym z) ∙ kind)) (eq-eqb _ _ (ap (tb .sort) (sym z) ∙ is))) none)
-              (λ (l : k < r). same k l ∙ g .goes-on k l kind is)
-              (last (rw add-one at h));
+          many-heads = g .many-heads;
+          many-links = g .many-links;
+          begins = λ s t l h. g .begins s t l h ∙ rw (add-one r, ne-eqb (tb .kind r) 3 none);
+          goes-on = λ k h kind.
+              ⊎-elim (λ (z : k ≡ r). absurd (none (ap (tb .kind) (sym z) ∙ kind))) (λ (l : k < r). g .goes-on k l kind) (last (rw add-one at h));
         }
 
-    -- Record r is one: the chain of its transition begins with it and goes on with what it began with.
-    pub linked-more : arc tb sort r ≡ true → tb .two r < 64 → length firsts ≡ 64 → r < length next
-        → Linked tb sort (r + 1) (set firsts (tb .two r) (r + 1)) (set next r (getD firsts (tb .two r) 0))
+    -- Record r is one: the chain of its sort and transition begins with it and goes on with what it began with.
+    pub linked-more : tb .kind r ≡ 3 → tb .sort r < 4 → tb .two r < 64 → r < 1024 → (k : ℕ) → k ≡ 64 * tb .sort r + tb .two r
+        → Linked tb (r + 1) (set heads k (r + 1)) (set next r (getD heads k 0))
     unfolding link
-    linked-more here low size inside =
+    linked-more kind sort two inside k k-is =
         record {
-          begins = λ t h. rw (add-one r, here) (at t h (eqb (tb .two r) t) refl);
-          goes-on = λ k h kind is.
-              ⊎-elim (λ (z : k ≡ r). rw z (getD-set-same next r _ 0 inside ∙ g .begins (tb .two r) low))
-              (λ (l : k < r). getD-set-other next r k _ 0 (λ z. omega arith) ∙ g .goes-on k l kind is)
+          many-heads = length-set heads _ _ ∙ g .many-heads;
+          many-links = length-set next _ _ ∙ g .many-links;
+          begins = λ s t l h. rw (add-one r, eq-eqb _ _ kind) (at s t l h (eqb (tb .sort r) s) (eqb (tb .two r) t) refl refl);
+          goes-on = λ q h is.
+              ⊎-elim (λ (z : q ≡ r). rw z (getD-set-same next r _ 0 (omega (arith, g .many-links)) ∙ rw k-is (g .begins (tb .sort r) (tb .two r) sort two)))
+              (λ (l : q < r). getD-set-other next r q _ 0 (λ z. omega arith) ∙ g .goes-on q l is)
               (last (rw add-one at h));
         }
       where
-        at : (t : ℕ) → t < 64 → (b : Bool) → eqb (tb .two r) t ≡ b
-            → getD (set firsts (tb .two r) (suc r)) t 0 ≡ cond b (suc r) (link r (arc-of tb sort t))
-        at t h true e = rw (← eqb-true (tb .two r) t e) (getD-set-same firsts (tb .two r) (suc r) 0 (omega arith))
-        at t h false e = getD-set-other firsts (tb .two r) t (suc r) 0 (λ z. eqb-false (tb .two r) t e (sym z)) ∙ g .begins t h
+        other : (s t : ℕ) → s < 4 → t < 64 → ¬ (64 * s + t ≡ k) → getD (set heads k (suc r)) (64 * s + t) 0 ≡ link r (arc-of tb s t)
+        other s t l h n = getD-set-other heads k (64 * s + t) (suc r) 0 n ∙ g .begins s t l h
+
+        at : (s t : ℕ) → s < 4 → t < 64 → (a b : Bool) → eqb (tb .sort r) s ≡ a → eqb (tb .two r) t ≡ b
+            → getD (set heads k (suc r)) (64 * s + t) 0 ≡ cond (a && b) (suc r) (link r (arc-of tb s t))
+        at s t l h true true e f =
+            let same : k ≡ 64 * s + t = omega (arith, k-is, eqb-true (tb .sort r) s e, eqb-true (tb .two r) t f) in
+            rw (← same) (getD-set-same heads k (suc r) 0 (omega (arith, g .many-heads)))
+        at s t l h true false e f = other s t l h (λ z. eqb-false (tb .two r) t f (omega (arith, k-is, eqb-true (tb .sort r) s e)))
+        at s t l h false b e f = other s t l h (λ z. eqb-false (tb .sort r) s e (omega (arith, k-is)))

@@ -1,4 +1,4 @@
--- One more record: an arc of transition t at place p puts p into one of the two words of t, and no other record puts anything there.
+-- One more record: one that passes, between transition t and place p, puts p into one of the two words of t, and no other puts anything there.
 use mathlib.Core.Bool.{Bool, true, false, _&&_, _||_, and-false, or-false}
 use mathlib.Core.List.{List}
 use mathlib.Core.Path.{_≡_, refl, sym, ap, _∙_}
@@ -10,10 +10,10 @@ use lib.ListN.{getD, set, replicate}
 use borrow.Author.Tests.{eqb-true, eq-eqb, ne-eqb, lt-ltb}
 use Rattle.meaning.specs.Below.{some}
 use Rattle.meaning.specs.Bytes.{bit}
-use Rattle.meaning.specs.Table.{Table, arc}
+use Rattle.meaning.specs.Table.{Table}
 use Rattle.meaning.proofs.Bool.{and-left, and-right, and-true, same-test}
 use Rattle.net.specs.Grow.{Grown}
-use Rattle.net.specs.Chains.{touches, Touches}
+use Rattle.net.specs.Chains.{between, Reached}
 use Rattle.net.proofs.Step.{grown-none, grown-more}
 
 -- Record r puts none of 64 numbers into any row.
@@ -25,55 +25,52 @@ grown-idle f r rows g none =
       holds = λ t p h l. g .holds t p h l ∙ rw (add-one r, none t p l) (sym (or-false (some r (f t p))));
     }
 
-module _ (tb : Table) where
-  -- Before the first record no place is touched.
-  pub touches-none : Touches tb 0 (replicate 64 0) (replicate 64 0)
-  touches-none = record { low-is = grown-none 64 (touches tb); high-is = grown-none 64 (λ t p. touches tb t (64 + p)) }
+module _ (tb : Table) (of : ℕ → Bool) where
+  -- Before the first record no place is reached.
+  pub reached-none : Reached tb of 0 (replicate 64 0) (replicate 64 0)
+  reached-none = record { low-is = grown-none 64 (between tb of); high-is = grown-none 64 (λ t p. between tb of t (64 + p)) }
 
-  module _ (r : ℕ) (low high : List ℕ) (g : Touches tb r low high) where
-    -- Record r is neither a basic nor a post arc.
-    pub touches-same : arc tb 0 r ≡ false → arc tb 3 r ≡ false → Touches tb (r + 1) low high
-    touches-same a b =
+  module _ (r : ℕ) (low high : List ℕ) (g : Reached tb of r low high) where
+    -- Record r does not pass.
+    pub reached-same : of r ≡ false → Reached tb of (r + 1) low high
+    reached-same e =
         record {
-          low-is = grown-idle (touches tb) r low (g .low-is) (λ t p h. rw (a, b));
-          high-is = grown-idle (λ t p. touches tb t (64 + p)) r high (g .high-is) (λ t p h. rw (a, b));
+          low-is = grown-idle (between tb of) r low (g .low-is) (λ t p h. rw e);
+          high-is = grown-idle (λ t p. between tb of t (64 + p)) r high (g .high-is) (λ t p h. rw e);
         }
 
-    -- Record r is such an arc of transition t at place p.
-    module _ (t p : ℕ) (low-t : t < 64) (here : touches tb t p r ≡ true) where
-      abbrev test : Bool
-      test = arc tb 0 r || arc tb 3 r
-
-      front : (test && eqb (tb .two r) t) ≡ true
-      front = and-left (test && eqb (tb .two r) t) (eqb (tb .one r) p) here
+    -- Record r passes, and is between transition t and place p.
+    module _ (t p : ℕ) (low-t : t < 64) (here : between tb of t p r ≡ true) where
+      front : (of r && eqb (tb .two r) t) ≡ true
+      front = and-left (of r && eqb (tb .two r) t) (eqb (tb .one r) p) here
 
       two : tb .two r ≡ t
-      two = eqb-true (tb .two r) t (and-right test (eqb (tb .two r) t) front)
+      two = eqb-true (tb .two r) t (and-right (of r) (eqb (tb .two r) t) front)
 
       one : tb .one r ≡ p
-      one = eqb-true (tb .one r) p (and-right (test && eqb (tb .two r) t) (eqb (tb .one r) p) here)
+      one = eqb-true (tb .one r) p (and-right (of r && eqb (tb .two r) t) (eqb (tb .one r) p) here)
 
-      inside : (test && ltb (tb .two r) 64) ≡ true
-      inside = and-true (and-left test (eqb (tb .two r) t) front) (lt-ltb (tb .two r) 64 (omega (arith, two)))
+      inside : (of r && ltb (tb .two r) 64) ≡ true
+      inside = and-true (and-left (of r) (eqb (tb .two r) t) front) (lt-ltb (tb .two r) 64 (omega (arith, two)))
 
-      away : (q k : ℕ) → ¬ (p ≡ q) → (test && eqb (tb .two r) k && eqb (tb .one r) q) ≡ false
-      away q k n = rw (ne-eqb (tb .one r) q (λ z. n (sym one ∙ z))) (and-false (test && eqb (tb .two r) k))
+      away : (q k : ℕ) → ¬ (p ≡ q) → between tb of k q r ≡ false
+      away q k n = rw (ne-eqb (tb .one r) q (λ z. n (sym one ∙ z))) (and-false (of r && eqb (tb .two r) k))
 
-      pub touches-low : p < 64 → (v : ℕ) → ((j : ℕ) → bit v j ≡ (bit (getD low t 0) j || eqb p j)) → Touches tb (r + 1) (set low t v) high
-      touches-low h v gains =
+      pub reached-low : p < 64 → (v : ℕ) → ((j : ℕ) → bit v j ≡ (bit (getD low t 0) j || eqb p j)) → Reached tb of (r + 1) (set low t v) high
+      reached-low h v gains =
           record {
             low-is = rw (← two)
-                (grown-more 64 (touches tb) r low (g .low-is) test (tb .two r) (λ j. eqb (tb .one r) j) (λ x y. refl) inside v
+                (grown-more 64 (between tb of) r low (g .low-is) (of r) (tb .two r) (λ j. eqb (tb .one r) j) (λ x y. refl) inside v
                 (λ j l. rw (two, one) (gains j)));
-            high-is = grown-idle (λ x q. touches tb x (64 + q)) r high (g .high-is) (λ x q l. away (64 + q) x (λ z. omega arith));
+            high-is = grown-idle (λ x q. between tb of x (64 + q)) r high (g .high-is) (λ x q l. away (64 + q) x (λ z. omega arith));
           }
 
-      pub touches-high : 64 ≤ p → (v : ℕ) → ((j : ℕ) → bit v j ≡ (bit (getD high t 0) j || eqb (p - 64) j)) → Touches tb (r + 1) low (set high t v)
-      touches-high h v gains =
+      pub reached-high : 64 ≤ p → (v : ℕ) → ((j : ℕ) → bit v j ≡ (bit (getD high t 0) j || eqb (p - 64) j)) → Reached tb of (r + 1) low (set high t v)
+      reached-high h v gains =
           record {
-            low-is = grown-idle (touches tb) r low (g .low-is) (λ x q l. away q x (λ z. omega arith));
+            low-is = grown-idle (between tb of) r low (g .low-is) (λ x q l. away q x (λ z. omega arith));
             high-is = rw (← two)
-                (grown-more 64 (λ x q. touches tb x (64 + q)) r high (g .high-is) test (tb .two r) (λ j. eqb (tb .one r) (64 + j)) (λ x y. refl) inside v
+                (grown-more 64 (λ x q. between tb of x (64 + q)) r high (g .high-is) (of r) (tb .two r) (λ j. eqb (tb .one r) (64 + j)) (λ x y. refl) inside v
                 (λ j l. rw (two, one) (gains j ∙ ap (λ (b : Bool). bit (getD high t 0) j || b) (shifted j))));
           }
         where

@@ -1,6 +1,7 @@
 -- What the rows and the chains of a net hold, and what they hold after a part of the records.
 pub mod Rows
 pub mod Grow
-pub mod Pass
 pub mod Chains
-pub mod Inputs
+pub mod Links
+pub mod Opposed
+pub mod Pass

@@ -1,5 +1,5 @@
 -- What each array holds, in terms of the table's records.
-use mathlib.Core.Bool.{Bool, false, cond, _&&_, _||_}
+use mathlib.Core.Bool.{Bool, true, false, cond, _&&_}
 use mathlib.Core.List.{List, []}
 use mathlib.Core.Path.{_≡_}
 use Prim.Native.Nat.{ℕ, zero, suc, _≤_, _<_}
@@ -19,15 +19,15 @@ pub record Blank-from (m n : ℕ) (rows : List ℕ) : Type 0 where
   pub most : n ≤ m
   pub none : (x y : ℕ) → n ≤ x → x < m → y < 64 → bit (getD rows x 0) y ≡ false
 
--- What is shared: the row of each member of the set has the set beside what it had.
-pub record Shared (rows : List ℕ) (set : ℕ) (after : List ℕ) : Type 0 where
-  pub size : length after ≡ 64
-  pub holds : (i j : ℕ) → i < 64 → bit (getD after i 0) j ≡ (bit (getD rows i 0) j || (bit set i && bit set j))
+-- Both i and j are in some place's row.
+abbrev pub both-in : List ℕ → ℕ → ℕ → ℕ → Bool
+both-in takers i j p = bit (getD takers p 0) i && bit (getD takers p 0) j
 
--- Bit j of row i: some place's row has both i and j.
+-- Row i has nobody but those with whom i is in some place's row, and of them all others than i.
 pub record Conflicts (takers rows : List ℕ) : Type 0 where
   pub size : length rows ≡ 64
-  pub holds : (i j : ℕ) → i < 64 → bit (getD rows i 0) j ≡ some 128 (λ p. bit (getD takers p 0) i && bit (getD takers p 0) j)
+  pub sound : (i j : ℕ) → i < 64 → bit (getD rows i 0) j ≡ true → some 128 (both-in takers i j) ≡ true
+  pub whole : (i j : ℕ) → i < 64 → j < 64 → ¬ (i ≡ j) → some 128 (both-in takers i j) ≡ true → bit (getD rows i 0) j ≡ true
 
 -- What column f says in the last of the first n records that passes p; 0 where none does.
 unfoldable pub latest : ℕ → (ℕ → Bool) → (ℕ → ℕ) → ℕ

@@ -12,17 +12,19 @@ use Rattle.meaning.proofs.Below.{first-same, first-none, none-elim}
 use Rattle.net.specs.Rows.{Blank-from}
 use Rattle.pairs.specs.Settled.{Narrowed, any-left, left-loose, loose}
 
-module _ {conflicts above truths falses rows : List ℕ} (narrowed : Narrowed conflicts above truths falses rows) where
+module _ {conflicts below above index truths rows : List ℕ} (narrowed : Narrowed conflicts below above index truths rows) where
   -- Rows that were empty stay so.
   pub left-blank : {n : ℕ} → Blank-from 64 n conflicts → Blank-from 64 n rows
   left-blank blank = record { most = blank .most; none = λ x y h hx hy. narrowed .holds x y hx hy ∙ rw (blank .none x y h hx hy) }
 
   module _ (tb : Table) where
-    pub left-same : first 4096 (left-loose tb rows) ≡ first 4096 (loose tb conflicts above truths falses)
+    pub left-same : first 4096 (left-loose tb rows) ≡ first 4096 (loose tb conflicts below above index truths)
     unfolding left-loose loose
-    left-same = first-same 4096 (left-loose tb rows) (loose tb conflicts above truths falses) (λ k h. rw (narrowed .holds (k / 64) (k % 64) (omega arith) (omega arith)))
+    left-same =
+        first-same 4096 (left-loose tb rows) (loose tb conflicts below above index truths)
+        (λ k h. rw (narrowed .holds (k / 64) (k % 64) (omega arith) (omega arith)))
 
-    pub nothing-left : any-left rows ≡ false → first 4096 (loose tb conflicts above truths falses) ≡ 4096
+    pub nothing-left : any-left rows ≡ false → first 4096 (loose tb conflicts below above index truths) ≡ 4096
     unfolding left-loose
     nothing-left e = sym left-same ∙ first-none 4096 (left-loose tb rows) (λ k h. rw (none k h))
       where

@@ -1,5 +1,5 @@
 // The least pair of transitions in conflict that nothing settles (answer 9).
-ghost use mathlib.Core.Bool.{_&&_, _||_};
+ghost use mathlib.Core.Bool.{not, _&&_, _||_};
 ghost use mathlib.Core.Path.{_≡_};
 ghost use Prim.Native.Nat.{ℕ, _≤_, _<_};
 ghost use lib.ListN.{length, getD};
@@ -7,54 +7,32 @@ ghost use Rattle.meaning.specs.Below.{some, first};
 ghost use Rattle.meaning.specs.Bytes.{bit};
 ghost use Rattle.meaning.specs.Defined.{inhibited};
 ghost use Rattle.meaning.specs.Table.{table};
-ghost use Rattle.net.specs.Inputs.{Chainable, Input-chains};
+ghost use Rattle.net.specs.Links.{Chained};
 ghost use Rattle.net.specs.Rows.{Blank-from};
-ghost use Rattle.pairs.specs.Settled.{settled-by, open-by, Narrowed, any-left, left-loose, loose};
+ghost use Rattle.pairs.specs.Settled.{crossed-by, crossed-at, Narrowed, any-left, left-loose, loose};
 
-// Do the rows settle the pair: one stands above the other, or a condition is wanted both ways?
-fn settled(above: &[u64; 64], truths: &[u64; 128], falses: &[u64; 128], i: usize, j: usize) -> bool
-    requires { ⌜ (i < 64) × (j < 64) ⌝ }
-    ensures { λ r. ⌜ r ≡ settled-by (now (above .entry)) (now (truths .entry)) (now (falses .entry)) i j ⌝ }
+// Is a condition wanted true by one and false by the other? Each has the conditions it looks at and those of them it wants true.
+fn crossed(looks: u64, truths: u64, looks2: u64, truths2: u64) -> bool
+    ensures { λ r. ⌜ r ≡ crossed-by looks truths looks2 truths2 ⌝ }
 {
-    if sets::has(above[i], j) {
+    if sets::meet(truths, sets::less(looks2, truths2)) {
         return true;
     }
-    if sets::has(above[j], i) {
-        return true;
-    }
-    if sets::meet(truths[i], falses[j]) {
-        return true;
-    }
-    sets::meet(falses[i], truths[j])
+    sets::meet(sets::less(looks, truths), truths2)
 }
 
-// Is i < j, and do the rows leave the pair open?
-fn unsettled(
-    above: &[u64; 64],
-    truths: &[u64; 128],
-    falses: &[u64; 128],
-    i: usize,
-    j: usize,
-) -> bool
-    requires { ⌜ (i < 64) × (j < 64) ⌝ }
-    ensures { λ r. ⌜ r ≡ open-by (now (above .entry)) (now (truths .entry)) (now (falses .entry)) i j ⌝ }
-{
-    if j <= i {
-        return false;
-    }
-    !settled(above, truths, falses, i, j)
-}
-
-// Of those in conflict with i the ones past it whose pair with i the rows do not settle.
-fn left_of(row: u64, above: &[u64; 64], truths: &[u64; 128], falses: &[u64; 128], i: usize) -> u64
+// Of those in the row, the ones whose conditions are not against those of i.
+fn left_of(row: u64, index: &[u64; 768], truths: &[u64; 128], i: usize) -> u64
     requires { ⌜ i < 64 ⌝ }
-    ensures { λ r. ⌜ ((j : ℕ) → j < 64 → bit r j ≡ (bit row j && open-by (now (above .entry)) (now (truths .entry)) (now (falses .entry)) i j)) ⌝ }
+    ensures { λ r. ⌜ ((j : ℕ) → j < 64 → bit r j ≡ (bit row j && not (crossed-at (now (index .entry)) (now (truths .entry)) i j))) ⌝ }
 {
+    let looks = index[448 + i];
+    let wants = truths[i];
     let mut left = row;
     let mut kept: u64 = 0;
     while left != 0 {
         let j = sets::lowest(left);
-        if unsettled(above, truths, falses, i, j) {
+        if !crossed(looks, wants, index[448 + j], truths[j]) {
             kept = sets::with(kept, j);
         }
         left = sets::rest(left);
@@ -73,19 +51,28 @@ fn or_any(already: bool, row: u64) -> bool
 // n on nobody is in conflict.
 fn narrow(
     rows: &mut [u64; 64],
+    below: &[u64; 64],
     above: &[u64; 64],
+    index: &[u64; 768],
     truths: &[u64; 128],
-    falses: &[u64; 128],
     n: usize,
 ) -> bool
     requires { ⌜ (length (now rows) ≡ 64) × Blank-from 64 n (now rows) ⌝ }
-    ensures { λ r. ⌜ Narrowed (now (rows .entry)) (now (above .entry)) (now (truths .entry)) (now (falses .entry)) (now (rows .exit)) ⌝ }
+    ensures { λ r. ⌜ Narrowed (now (rows .entry)) (now (below .entry)) (now (above .entry)) (now (index .entry)) (now (truths .entry)) (now (rows .exit)) ⌝ }
     ensures { λ r. ⌜ r ≡ any-left (now (rows .exit)) ⌝ }
 {
     let mut any = false;
+    let mut passed: u64 = 0;
     let mut i = 0;
     while i < n {
-        let kept = left_of(rows[i], above, truths, falses, i);
+        passed = sets::with(passed, i);
+        let ranked = sets::union(below[i], above[i]);
+        let kept = left_of(
+            sets::less(rows[i], sets::union(passed, ranked)),
+            index,
+            truths,
+            i,
+        );
         rows[i] = kept;
         any = or_any(any, kept);
         i += 1;
@@ -94,8 +81,8 @@ fn narrow(
 }
 
 // Does an inhibitor arc of equal weight tell i and j apart?
-fn apart(t: &[u8], heads: &[u16; 64], next: &[u16; 1024], i: usize, j: usize) -> bool
-    requires { ⌜ Input-chains (table (now t)) (table (now t) .records) (now heads) (now next) ⌝ }
+fn apart(t: &[u8], heads: &[u16; 256], next: &[u16; 1024], i: usize, j: usize) -> bool
+    requires { ⌜ Chained (table (now t)) (now heads) (now next) ⌝ }
     requires { ⌜ (i < 64) × (j < 64) × (table (now t) .records ≤ 1024) ⌝ }
     ensures { λ r. ⌜ r ≡ (inhibited (table (now (t .entry))) i j || inhibited (table (now (t .entry))) j i) ⌝ }
 {
@@ -115,20 +102,18 @@ fn row(rows: &[u64; 64], i: usize) -> u64
 
 // 64i + j for the least pair that the rows have left and no inhibitor arc tells apart, 4096 if there is none: for each i the lowest j first. From n
 // on the rows are empty.
-fn least(rows: &[u64; 64], t: &[u8], n: usize) -> usize
+fn least(rows: &[u64; 64], t: &[u8], heads: &[u16; 256], next: &[u16; 1024], n: usize) -> usize
     requires { ⌜ Blank-from 64 n (now rows) ⌝ }
-    requires { ⌜ Chainable (table (now t)) ⌝ }
+    requires { ⌜ Chained (table (now t)) (now heads) (now next) ⌝ }
+    requires { ⌜ table (now t) .records ≤ 1024 ⌝ }
     ensures { λ r. ⌜ r ≡ first 4096 (left-loose (table (now (t .entry))) (now (rows .entry))) ⌝ }
 {
-    let mut heads = [0u16; 64];
-    let mut next = [0u16; 1024];
-    net::inputs(t, &mut heads, &mut next);
     let mut found = 4096;
     'search: for i in 0..n {
         let mut left = row(rows, i);
         while left != 0 {
             let j = sets::lowest(left);
-            if !apart(t, &heads, &next, i, j) {
+            if !apart(t, heads, next, i, j) {
                 found = 64 * i + j;
                 break 'search;
             }
@@ -142,18 +127,22 @@ fn least(rows: &[u64; 64], t: &[u8], n: usize) -> usize
 // from n on nobody is in conflict. The arcs are looked at only where priorities and conditions leave a pair.
 pub fn clash(
     conflicts: &mut [u64; 64],
+    below: &[u64; 64],
     above: &[u64; 64],
+    index: &[u64; 768],
     truths: &[u64; 128],
-    falses: &[u64; 128],
     t: &[u8],
+    heads: &[u16; 256],
+    next: &[u16; 1024],
     n: usize,
 ) -> usize
     requires { ⌜ (length (now conflicts) ≡ 64) × Blank-from 64 n (now conflicts) ⌝ }
-    requires { ⌜ Chainable (table (now t)) ⌝ }
-    ensures { λ r. ⌜ r ≡ first 4096 (loose (table (now (t .entry))) (now (conflicts .entry)) (now (above .entry)) (now (truths .entry)) (now (falses .entry))) ⌝ }
+    requires { ⌜ Chained (table (now t)) (now heads) (now next) ⌝ }
+    requires { ⌜ table (now t) .records ≤ 1024 ⌝ }
+    ensures { λ r. ⌜ r ≡ first 4096 (loose (table (now (t .entry))) (now (conflicts .entry)) (now (below .entry)) (now (above .entry)) (now (index .entry)) (now (truths .entry))) ⌝ }
 {
-    if narrow(conflicts, above, truths, falses, n) {
-        least(conflicts, t, n)
+    if narrow(conflicts, below, above, index, truths, n) {
+        least(conflicts, t, heads, next, n)
     } else {
         4096
     }

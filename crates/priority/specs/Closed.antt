@@ -4,7 +4,6 @@ use mathlib.Core.List.{List}
 use mathlib.Core.Logic.{_↔_}
 use mathlib.Core.Path.{_≡_}
 use Prim.Native.Nat.{ℕ, _+_, _≤_, _<_}
-use lib.Dec.{ltb, eqb}
 use lib.ListN.{length, getD}
 use Rattle.meaning.specs.Bytes.{bit}
 
@@ -32,7 +31,7 @@ pub record Round (rows : List ℕ) (k : ℕ) (next : List ℕ) : Type 0 where
   pub over : (u t : ℕ) → u < 64 → t < 64
       → bit (getD next u 0) t ≡ (bit (getD rows u 0) t || (bit (getD rows u 0) k && bit (getD rows k 0) t))
 
--- What is added: transition u to the set of each transition of the row.
-pub record Spread (above : List ℕ) (row u : ℕ) (after : List ℕ) : Type 0 where
-  pub size : length after ≡ 64
-  pub holds : (t j : ℕ) → t < 64 → bit (getD after t 0) j ≡ (bit (getD above t 0) j || (bit row t && (eqb u j && ltb u 64)))
+-- The rows turned: u is in row t of the one where t is in row u of the other.
+pub record Turned (rows above : List ℕ) : Type 0 where
+  pub size : length above ≡ 64
+  pub holds : (t u : ℕ) → t < 64 → u < 64 → bit (getD above t 0) u ≡ bit (getD rows u 0) t

@@ -138,7 +138,7 @@ fn over(row: &[u16; 5], one: u8, two: u8, four: u16, six: u16) -> bool
 }
 
 // 2 or 3, the first that a record meets whose kind exists, or 0: its sort exists, then each column is within the row of its kind.
-fn by_row(kind: u8, one: u8, two: u8, sort: u8, four: u16, six: u16, row: &[u16; 5]) -> u8
+pub fn by_row(kind: u8, one: u8, two: u8, sort: u8, four: u16, six: u16, row: &[u16; 5]) -> u8
     requires { ⌜ (1 ≤ kind) × (kind ≤ 7) × (now row ≡ getD kind-rows (kind - 1) []) ⌝ }
     ensures { λ f. ⌜ f ≡ fault-of (record { kind = kind; one = one; two = two; sort = sort; four = four; six = six }) ⌝ }
 {
@@ -154,15 +154,12 @@ fn by_row(kind: u8, one: u8, two: u8, sort: u8, four: u16, six: u16, row: &[u16;
     0
 }
 
-// 2 or 3, the first that the record meets, or 0. Arcs, of which a table has most, are asked first.
+// 2 or 3, the first that the record meets, or 0.
 pub fn fault(x: Rec, kinds: &[[u16; 5]; 7]) -> u8
     requires { ⌜ now kinds ≡ kind-rows ⌝ }
     ensures { λ f. ⌜ f ≡ fault-of x ⌝ }
 {
     let kind = x.kind;
-    if kind == 3 {
-        return by_row(3, x.one, x.two, x.sort, x.four, x.six, &kinds[2]);
-    }
     if kind == 0 {
         return 2;
     }

@@ -1,14 +1,14 @@
 -- A walk over the members of a set, the lowest first: each turn takes one out, so that the set falls, and what each row has or is to take stays.
-use mathlib.Core.Bool.{Bool, true, false, not, _&&_, _||_, and-true, or-false}
+use mathlib.Core.Bool.{Bool, true, false, not, _&&_, _||_, and-true, and-false, or-false}
 use mathlib.Core.List.{List}
 use mathlib.Core.Path.{_≡_, refl, sym, ap, _∙_}
 use Prim.Native.Nat.{ℕ, _-_, _^_, _<_}
 use native.Mathlib.Omega.{arith}
-use lib.Dec.{eqb}
+use lib.Dec.{eqb, ltb}
 use lib.ListN.{length, getD, set}
 use lib.Pow.{pow-pos}
 use lib.Seq.{getD-set-same, getD-set-other}
-use borrow.Author.Tests.{eqb-true, eqb-false, eq-eqb, ne-eqb, not-false}
+use borrow.Author.Tests.{eqb-true, eqb-false, eq-eqb, ne-eqb, not-false, lt-ltb}
 use Rattle.meaning.specs.Below.{some, first}
 use Rattle.meaning.specs.Bytes.{bit}
 use Rattle.meaning.proofs.Bool.{not-both}
@@ -43,6 +43,17 @@ module _ (a k b : ℕ) (rest : (j : ℕ) → bit b j ≡ (bit a j && not (eqb k 
       go : (x : Bool) → eqb k j ≡ x → P j
       go true y = rw (← eqb-true k j y) here
       go false y = out j (sym (and-true (bit a j)) ∙ sym (rw y at (rest j)) ∙ z)
+
+  -- Member k is kept if it passes: what is kept or is still to be kept stays the same.
+  pub kept : (f : ℕ → Bool) (r after : ℕ) (y : Bool) → k < 64 → bit a k ≡ true → y ≡ f k
+      → ((j : ℕ) → bit after j ≡ (bit r j || (y && (eqb k j && ltb k 64)))) → (t : ℕ)
+      → (bit after t || (bit b t && f t)) ≡ (bit r t || (bit a t && f t))
+  kept f r after y h e passes gains t = go (eqb k t) refl
+    where
+      go : (x : Bool) → eqb k t ≡ x → (bit after t || (bit b t && f t)) ≡ (bit r t || (bit a t && f t))
+      go true q =
+          rw (← eqb-true k t q, gains k, rest k, e, eq-eqb k k refl, lt-ltb k 64 h, and-true y, passes) (or-false _)
+      go false q = rw (gains t, rest t, q, and-false y, or-false (bit r t), and-true (bit a t))
 
   -- Row k takes what it is to take: what each row has or is to take stays the same.
   pub added : (rows : List ℕ) (v : ℕ) (q : ℕ → Bool) → k < length rows → bit a k ≡ true

@@ -5,6 +5,8 @@ ghost use Prim.Native.Nat.{ℕ, _<_};
 ghost use lib.Dec.{eqb, ltb};
 ghost use Rattle.meaning.specs.Below.{some, first};
 ghost use Rattle.meaning.specs.Bytes.{bit};
+ghost use lib.ListN.{length};
+ghost use Rattle.sets.specs.Given.{Given};
 
 // Is k in s?
 pub fn has(s: u64, k: usize) -> bool
@@ -68,4 +70,17 @@ pub fn rest(s: u64) -> u64
     ensures { λ r. ⌜ ((j : ℕ) → bit r j ≡ (bit s j && not (eqb (first 64 (bit s)) j))) ⌝ }
 {
     if s == 0 { 0 } else { s & (s - 1) }
+}
+
+// Whoever is in `to` gets all of `what` into its row, of 64 rows.
+pub fn give(rows: &mut [u64; 64], to: u64, what: u64)
+    requires { ⌜ length (now rows) ≡ 64 ⌝ }
+    ensures { λ _. ⌜ Given (now (rows .entry)) to what (now (rows .exit)) ⌝ }
+{
+    let mut left = to;
+    while left != 0 {
+        let t = lowest(left);
+        rows[t] = union(rows[t], what);
+        left = rest(left);
+    }
 }

@@ -1,14 +1,14 @@
 -- A transition is starved by the cells of its input arcs exactly if it is by the table: places from which nothing is taken starve nobody.
 use mathlib.Core.Bool.{Bool, true, false, not, _&&_, _||_, Bool·beq, and-false}
 use mathlib.Core.List.{List}
-use mathlib.Core.Path.{_≡_, refl, sym, ap, _∙_}
+use mathlib.Core.Path.{_≡_, refl, sym, _∙_}
 use mathlib.Core.Logic.{⊎-elim}
 use Prim.Native.Nat.{ℕ, _+_, _-_, _≤_, _<_}
 use native.Mathlib.Omega.{arith}
 use lib.Dec.{ltb, eqb}
 use lib.ListN.{getD}
-use borrow.Author.Tests.{eqb-true, eq-eqb, le-ltb}
-use Rattle.meaning.specs.Below.{some, every}
+use borrow.Author.Tests.{eqb-true, eq-eqb}
+use Rattle.meaning.specs.Below.{every}
 use Rattle.meaning.specs.Bytes.{bit}
 use Rattle.meaning.specs.Table.{Table, is, basic, test}
 use Rattle.meaning.specs.Cycle.{withdrawn, starved}
@@ -20,7 +20,8 @@ use Rattle.net.specs.Rows.{Weights, Sorts, cell}
 use Rattle.table.proofs.Carry.{Clean}
 use Rattle.table.proofs.Rows.{beq-true}
 use Rattle.enabled.specs.Inputs.{Inputs, Inputs-of, in-words}
-use Rattle.enabled.specs.Held.{Sorted}
+use Rattle.enabled.specs.Held.{Curbed, plain}
+use Rattle.enabled.proofs.Held.{plain-is}
 use Rattle.enabled.proofs.Carry.{Arc, cell-of, by-arc, in-row}
 use Rattle.settle.specs.Settle.{Starves}
 
@@ -34,11 +35,11 @@ module _ (tb : Table) (w s : List (List ℕ)) (index : List ℕ) (x : Inputs) (g
     (arcs : (r : ℕ) → r < tb .records → tb .kind r ≡ 3 → (tb .one r < 128) × (tb .two r < 64) × (1 ≤ tb .four r) × (tb .sort r ≤ 3))
     (single : (r q : ℕ) → r < tb .records → q < tb .records → tb .kind r ≡ 3 → tb .kind q ≡ 3 → tb .sort r < 3 → tb .sort q < 3
     → tb .one r ≡ tb .one q → tb .two r ≡ tb .two q → r ≡ q) (t : ℕ) (ht : t < 64) where
-  pub starves-same : (m taken plain curbs : List ℕ) (at : Places) (r : ℕ) → Sorted index s plain curbs → Starves m at taken plain w r
+  pub starves-same : (m taken curbs : List ℕ) (at : Places) (r : ℕ) → Curbed index s curbs → Starves m at taken index curbs w r
       → (F : ℕ → Bool) → ((p : ℕ) → p < 128 → getD taken p 0 ≡ withdrawn tb F p) → ((p : ℕ) → p < 128 → has at p ≡ false → getD taken p 0 ≡ 0)
       → bit r t ≡ starved tb (λ p. getD m p 0) F t
   unfolding starved
-  starves-same m taken plain curbs at r sorted starves F out none =
+  starves-same m taken curbs at r curbed starves F out none =
       starves .holds t ht ∙ some-same 128 _ _ (λ p h. near p h (has at p) refl)
       ∙ by-arc tb w s index x gw gs clean gx arcs single t ht by-cell by-table same is-arc
     where
@@ -50,10 +51,10 @@ module _ (tb : Table) (w s : List (List ℕ)) (index : List ℕ) (x : Inputs) (g
 
       -- Only places where something is taken count.
       near : (p : ℕ) → p < 128 → (b : Bool) → has at p ≡ b
-          → (b && (ltb 0 (getD taken p 0) && (bit (getD plain p 0) t && ltb (getD m p 0 - getD taken p 0) (cell w p t))))
+          → (b && (ltb 0 (getD taken p 0) && (plain index curbs p t && ltb (getD m p 0 - getD taken p 0) (cell w p t))))
           ≡ (in-words (getD (x .low) t 0) (getD (x .high) t 0) p && by-cell p)
       near p h true e =
-          rw (sorted .plain-is p t h, in-row tb w s index x gw gs clean gx arcs single t ht p h)
+          rw (plain-is curbed p h t ht, in-row tb w s index x gw gs clean gx arcs single t ht p h)
           (swap (bit (getD index (192 + p) 0) t) (not (eqb (cell s p t) 2)) (ltb 0 (getD taken p 0)) _)
         where
           swap : (a b c d : Bool) → (c && (a && b && d)) ≡ (a && (b && (c && d)))

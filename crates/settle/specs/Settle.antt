@@ -10,6 +10,7 @@ use Rattle.meaning.specs.Bytes.{bit}
 use Rattle.places.specs.declared.Places.{Places}
 use Rattle.places.specs.Set.{has}
 use Rattle.net.specs.Rows.{cell}
+use Rattle.enabled.specs.Held.{plain}
 
 -- The new tokens of place p: those it had, less those that are taken, and those that are put.
 abbrev pub new-at : List ℕ → List ℕ → List ℕ → ℕ → ℕ
@@ -33,7 +34,7 @@ pub record Settled (m : List ℕ) (at : Places) (taken put m′ taken′ put′ 
 
 -- The set r has those with a basic or test arc from one of the places from which something was taken and which then holds less than the arc's
 -- weight.
-pub record Starves (m : List ℕ) (at : Places) (taken plain : List ℕ) (w : List (List ℕ)) (r : ℕ) : Type 0 where
+pub record Starves (m : List ℕ) (at : Places) (taken index curbs : List ℕ) (w : List (List ℕ)) (r : ℕ) : Type 0 where
   pub holds : (t : ℕ) → t < 64
       → bit r t
-      ≡ some 128 (λ p. has at p && (ltb 0 (getD taken p 0) && (bit (getD plain p 0) t && ltb (getD m p 0 - getD taken p 0) (cell w p t))))
+      ≡ some 128 (λ p. has at p && (ltb 0 (getD taken p 0) && (plain index curbs p t && ltb (getD m p 0 - getD taken p 0) (cell w p t))))

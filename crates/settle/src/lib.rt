@@ -1,7 +1,7 @@
 // The marking after a step: each place loses the tokens taken and gains the tokens put. Whom it starves is told on the way, and what is kept of
 // each place moves with its tokens.
 use places::Places;
-ghost use mathlib.Core.Bool.{true, _&&_, _||_};
+ghost use mathlib.Core.Bool.{true, not, _&&_, _||_};
 ghost use mathlib.Core.Path.{_≡_};
 ghost use Prim.Native.Nat.{ℕ, _+_, _-_, _≤_, _<_};
 ghost use lib.Dec.{ltb};
@@ -10,7 +10,7 @@ ghost use Rattle.meaning.specs.Below.{first};
 ghost use Rattle.meaning.specs.Bytes.{bit};
 ghost use Rattle.places.specs.Set.{has};
 ghost use Rattle.net.specs.Rows.{cell};
-ghost use Rattle.enabled.specs.Held.{Weighty, Sorted, Levels};
+ghost use Rattle.enabled.specs.Held.{Weighty, Curbed, plain, Levels};
 ghost use Rattle.settle.specs.Settle.{new-at, Low, Crowded, Settled, Starves};
 
 // Tokens less those taken, none where more are taken.
@@ -60,21 +60,23 @@ fn starved(
     p: usize,
     held: &[u64; 128],
     from: &[u32; 128],
-    plain: &[u64; 128],
+    index: &[u64; 768],
+    curbs: &[u64; 128],
     w: &[[u16; 64]; 128],
 ) -> u64
     requires { ⌜ (p < 128) × (rest ≤ 65535) ⌝ }
-    requires { ⌜ ((t : ℕ) → t < 64 → bit (getD (now plain) p 0) t ≡ true → 1 ≤ cell (now w) p t) ⌝ }
-    requires { ⌜ (getD (now from) p 0 ≤ rest → (t : ℕ) → t < 64 → (bit (getD (now held) p 0) t && bit (getD (now plain) p 0) t) ≡ (bit (getD (now plain) p 0) t && ltb rest (cell (now w) p t))) ⌝ }
-    ensures { λ r. ⌜ ((t : ℕ) → t < 64 → bit r t ≡ (bit all t || (ltb 0 taken && (bit (getD (now (plain .entry)) p 0) t && ltb rest (cell (now (w .entry)) p t))))) ⌝ }
+    requires { ⌜ ((t : ℕ) → t < 64 → plain (now index) (now curbs) p t ≡ true → 1 ≤ cell (now w) p t) ⌝ }
+    requires { ⌜ (getD (now from) p 0 ≤ rest → (t : ℕ) → t < 64 → (bit (getD (now held) p 0) t && not (bit (getD (now curbs) p 0) t)) ≡ (plain (now index) (now curbs) p t && ltb rest (cell (now w) p t))) ⌝ }
+    ensures { λ r. ⌜ ((t : ℕ) → t < 64 → bit r t ≡ (bit all t || (ltb 0 taken && (plain (now (index .entry)) (now (curbs .entry)) p t && ltb rest (cell (now (w .entry)) p t))))) ⌝ }
 {
     if taken == 0 {
         return all;
     }
-    let plain_here = plain[p];
+    let curbs_here = curbs[p];
     if from[p] <= rest {
-        return sets::union(all, held[p] & plain_here);
+        return sets::union(all, sets::less(held[p], curbs_here));
     }
+    let plain_here = sets::less(index[192 + p], curbs_here);
     if rest == 0 {
         return sets::union(all, plain_here);
     }
@@ -94,17 +96,16 @@ pub fn settle(
     put: &mut [u32; 128],
     at: Places,
     index: &[u64; 768],
-    plain: &[u64; 128],
     curbs: &[u64; 128],
     w: &[[u16; 64]; 128],
     s: &[[u8; 64]; 128],
 ) -> u64
     requires { ⌜ Low (now m) (now put) ⌝ }
     requires { ⌜ (length (now m) ≡ 128) × (length (now taken) ≡ 128) × (length (now put) ≡ 128) ⌝ }
-    requires { ⌜ Sorted (now index) (now s) (now plain) (now curbs) ⌝ }
+    requires { ⌜ Curbed (now index) (now s) (now curbs) ⌝ }
     requires { ⌜ Weighty (now index) (now w) ⌝ }
     requires { ⌜ Levels (now index) (now w) (now s) (now m) (now held) (now shown) (now from) (now upto) ⌝ }
-    ensures { λ r. ⌜ Starves (now (m .entry)) at (now (taken .entry)) (now (plain .entry)) (now (w .entry)) r ⌝ }
+    ensures { λ r. ⌜ Starves (now (m .entry)) at (now (taken .entry)) (now (index .entry)) (now (curbs .entry)) (now (w .entry)) r ⌝ }
     ensures { λ _. ⌜ Settled (now (m .entry)) at (now (taken .entry)) (now (put .entry)) (now (m .exit)) (now (taken .exit)) (now (put .exit)) ⌝ }
     ensures { λ _. ⌜ Levels (now (index .entry)) (now (w .entry)) (now (s .entry)) (now (m .exit)) (now (held .exit)) (now (shown .exit)) (now (from .exit)) (now (upto .exit)) ⌝ }
 {
@@ -115,11 +116,11 @@ pub fn settle(
         let lost = taken[p];
         let rest = rest_of(m[p], lost);
         let new = rest + put[p];
-        all = starved(all, lost, rest, p, held, from, plain, w);
+        all = starved(all, lost, rest, p, held, from, index, curbs, w);
         m[p] = new;
         taken[p] = 0;
         put[p] = 0;
-        enabled::shift(p, new, index, plain, curbs, w, s, held, shown, from, upto);
+        enabled::shift(p, new, index, curbs, w, s, held, shown, from, upto);
         walk = places::step(walk.rest);
     }
     all

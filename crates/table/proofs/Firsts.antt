@@ -134,11 +134,16 @@ lone-place rows p arcs h l e =
     rw (lt-ltb p 128 h, zero-set arcs l) (ap (λ (b : Bool). bit (getD rows p 0) 0 && not b) (some-same 64 _ _ (λ t _. e t)))
 
 -- One place more: its arcs join those gathered.
-pub more-arcs : (rows : List ℕ) (p all arcs joined : ℕ) → ((t : ℕ) → bit all t ≡ some p (λ p. arc-bit rows p t))
-    → ((t : ℕ) → bit arcs t ≡ arc-bit rows p t) → ((t : ℕ) → bit joined t ≡ (bit all t || bit arcs t))
-    → (t : ℕ) → bit joined t ≡ some (p + 1) (λ p. arc-bit rows p t)
+pub more-arcs : (rows : List ℕ) (p t all arcs joined : ℕ) → bit all t ≡ some p (λ p. arc-bit rows p t) → bit arcs t ≡ arc-bit rows p t
+    → bit joined t ≡ (bit all t || bit arcs t) → bit joined t ≡ some (p + 1) (λ p. arc-bit rows p t)
 unfolding some
-more-arcs rows p all arcs joined f g h t = h t ∙ rw (add-one p, f t, g t)
+more-arcs rows p t all arcs joined f g h = h ∙ rw (add-one p, f, g)
+
+-- The places below n have all arcs.
+pub all-arcs : (rows : List ℕ) (n t : ℕ) → Reaches rows n → t < 64 → some n (λ p. arc-bit rows p t) ≡ some 128 (λ p. arc-bit rows p t)
+all-arcs rows n t reach h =
+    some-short n 128 (λ p. arc-bit rows p t) (reach .most)
+    (λ p l m. rw (reach .no-row 2 p t (omega arith) l m h, reach .no-row 3 p t (omega arith) l m h))
 
 -- A transition is alone if its row has its bit and no arc's row has it.
 pub lone-transition : (rows : List ℕ) (t all : ℕ) → bit all t ≡ some 128 (λ p. arc-bit rows p t)
@@ -183,10 +188,7 @@ pub lone-first : (rows : List ℕ) (n p all : ℕ) → Reaches rows n → p ≡ 
 unfolding lone
 lone-first rows n p all reach e f g =
     let whole : (t : ℕ) → t < 64 → bit all t ≡ some 128 (λ p. arc-bit rows p t) =
-    λ t h.
-    g t ∙ ap (λ (n : ℕ). some n (λ p. arc-bit rows p t)) e
-    ∙ some-short n 128 (λ p. arc-bit rows p t) (reach .most)
-    (λ p l m. rw (reach .no-row 2 p t (omega arith) l m h, reach .no-row 3 p t (omega arith) l m h)) in
+    λ t h. g t ∙ ap (λ (n : ℕ). some n (λ p. arc-bit rows p t)) e ∙ all-arcs rows n t reach h in
     let none : (k : ℕ) → n ≤ k → k < 128 → lone rows k ≡ false =
     λ k l m. rw (lt-ltb k 128 m, ap (λ (q : ℕ). bit (getD rows q 0) 0) (sym (zero-add k)) ∙ reach .no-row 0 k 0 (omega arith) l m (omega arith)) in
     ap (λ (n : ℕ). 128 + n) (first-same 64 _ _ (λ t h. lone-transition rows t all (whole t h)))

@@ -1,6 +1,6 @@
 -- What the pass over the records keeps: those passed have no fault and are in the index, so the next one's fault is that of its own columns
 -- or, where these are in order, whether its bit is set already.
-use mathlib.Core.Bool.{Bool, true, false, cond, _&&_, _||_}
+use mathlib.Core.Bool.{Bool, true, false, cond, _||_}
 use mathlib.Core.List.{List}
 use mathlib.Core.Path.{_≡_, refl, sym, ap, _∙_}
 use mathlib.Core.Logic.{⊎-elim}
@@ -9,21 +9,18 @@ use native.Mathlib.Numerals.{add-one}
 use native.Mathlib.Omega.{arith}
 use lib.Dec.{eqb, ltb}
 use lib.ListN.{length, getD, set, replicate, length-set, length-replicate, getD-replicate}
-use borrow.Author.Tests.{lt-ltb, le-ltb, eqb-true, eq-eqb, ne-eqb}
-use Rattle.meaning.specs.Below.{some}
+use borrow.Author.Tests.{lt-ltb, le-ltb, ne-eqb}
 use Rattle.meaning.specs.Bytes.{bit}
-use Rattle.meaning.specs.Says.{Shown}
 use Rattle.meaning.specs.Table.{Table, table}
 use Rattle.meaning.specs.Defined.{bad-kind, bad-field, interval, twice, fault, faulty}
-use Rattle.meaning.proofs.Bool.{and-left, and-right, and-true, same-test}
-use Rattle.meaning.proofs.Below.{last, some-intro, some-elim, first-is, first-none}
+use Rattle.meaning.proofs.Below.{last, first-is, first-none}
 use Rattle.meaning.proofs.Shows.{Shows, shows}
-use Rattle.meaning.proofs.Same.{of-kind, shown-kind, shown-transition}
+use Rattle.meaning.proofs.Same.{shown-kind}
 use Rattle.meaning.proofs.Faults.{faultless}
 use Rattle.records.specs.declared.Rec.{Rec}
 use Rattle.records.specs.Record.{Reads, alone, interval-of, fault-of}
 use Rattle.table.specs.Index.{row, row-of, Indexed, larger-of, top, Scanned}
-use Rattle.table.proofs.Rows.{row-low, one-low, two-low, twice-bit, add-record, no-records}
+use Rattle.table.proofs.Rows.{row-low, one-low, twice-bit, add-record, no-records}
 
 -- A RECORD AS IT WAS READ
 
@@ -53,7 +50,7 @@ module _ (tb : Table) (r : ℕ) (x : Rec) (reads : Reads tb r x) where
       go false true h = refl
       go false false h = absurd (h refl)
 
-  in-order : fault-of x ≡ 0 → Shows tb r × (fault tb r ≡ cond (twice tb r) 4 0)
+  pub in-order : fault-of x ≡ 0 → Shows tb r × (fault tb r ≡ cond (twice tb r) 4 0)
   unfolding fault fault-of
   in-order = rw (kind-read, field-read) (go (bad-kind tb r) (bad-field tb r) refl refl)
     where
@@ -64,7 +61,7 @@ module _ (tb : Table) (r : ℕ) (x : Rec) (reads : Reads tb r x) where
       go false false p q h = (shows tb r p q, refl)
 
   -- Its row, where it is shown.
-  row-read : Shows tb r → row-of x ≡ row tb r
+  pub row-read : Shows tb r → row-of x ≡ row tb r
   unfolding row row-of
   row-read h = rw (reads .kind, reads .sort, reads .one, le-ltb 7 (tb .kind r) (shown-kind h .1))
 
@@ -151,30 +148,6 @@ module _ {tb : Table} {n : ℕ} {rows : List ℕ} {high r q y : ℕ} (z : Step t
   two-is : y ≡ tb .two r
   two-is = z .two-of-x ∙ z .reads .two
 
-  -- Its row is in the index.
-  pub row-there : q < 768
-  row-there = omega (arith, row-is, row-low tb r shown)
-
-  -- Its byte 2 is below 64; whoever is alone in a set meets its row exactly if the bit is set.
-  pub two-there : y < 64
-  two-there = omega (arith, two-is, two-low shown)
-
-  pub bit-met : (alone : ℕ) → ((j : ℕ) → bit alone j ≡ eqb y j) → some 64 (λ k. bit (getD rows q 0) k && bit alone k) ≡ bit (getD rows q 0) y
-  bit-met alone is =
-      same-test (some 64 (λ k. bit (getD rows q 0) k && bit alone k)) (bit (getD rows q 0) y)
-      (λ e.
-      let w = some-elim 64 (λ k. bit (getD rows q 0) k && bit alone k) e in
-      let here : y ≡ w .0 = eqb-true y (w .0) (sym (is (w .0)) ∙ and-right (bit (getD rows q 0) (w .0)) (bit alone (w .0)) (w .2)) in
-      ap (bit (getD rows q 0)) here ∙ and-left (bit (getD rows q 0) (w .0)) (bit alone (w .0)) (w .2))
-      (λ e. some-intro 64 (λ k. bit (getD rows q 0) k && bit alone k) y two-there (and-true e (is y ∙ eq-eqb y y refl)))
-
-  -- Its numbers are in range for its kind.
-  pub in-range : (tb .one r < 128) × (tb .kind r ≡ 2 → tb .one r < 64) × (tb .kind r ≡ 4 → tb .sort r ≤ 1)
-  in-range = (one-low shown, λ e. omega (arith, shown-transition (of-kind tb r 2 shown e) .0), λ e. wanted (of-kind tb r 4 shown e))
-    where
-      wanted : {o t s f x : ℕ} → Shown 4 o t s f x → s ≤ 1
-      wanted (Shown.condition a b c) = c
-
   -- Its fault is whether its bit is set.
   bit-fault : fault tb r ≡ cond (bit (getD rows q 0) y) 4 0
   bit-fault =
@@ -187,22 +160,18 @@ module _ {tb : Table} {n : ℕ} {rows : List ℕ} {high r q y : ℕ} (z : Step t
   stopped-twice b = stopped (z .kept) (z .more) 4 (bit-fault ∙ rw b) (omega arith)
 
   -- The next record.
-  pub passed-one : (line one higher high′ : ℕ) → bit (getD rows q 0) y ≡ false
-      → ((j : ℕ) → bit line j ≡ (bit (getD rows q 0) j || eqb y j)) → one ≡ tb .one r → higher ≡ larger-of high one
-      → high′ ≡ larger-of higher y
+  pub passed-one : (line one high′ : ℕ) → bit (getD rows q 0) y ≡ false
+      → ((j : ℕ) → bit line j ≡ (bit (getD rows q 0) j || eqb y j)) → one ≡ tb .one r → high′ ≡ larger-of high one
       → Passed tb n (set rows q line) high′ (suc r)
   unfolding faulty top
-  passed-one line one higher high′ b e one-is f g =
+  passed-one line one high′ b e one-is f =
       record {
         count = z .kept .count;
         most = z .more;
         size = length-set rows q line ∙ z .kept .size;
         before = λ k l. ⊎-elim (λ (w : k ≡ r). ap (faulty tb) w ∙ rw (bit-fault, b)) (z .kept .before k) (last l);
-        highest = g ∙ rw (f, z .kept .highest, one-is, two-is);
-        low =
-            rw (g, f)
-            (larger-low (larger-of high one) y 128 (larger-low high one 128 (z .kept .low) (omega (arith, one-is, one-low shown)))
-            (omega (arith, two-is, two-low shown)));
+        highest = f ∙ rw (z .kept .highest, one-is);
+        low = rw f (larger-low high one 128 (z .kept .low) (omega (arith, one-is, one-low shown)));
         index =
             rw row-is
             (add-record tb r rows line (z .kept .index) (omega (arith, z .kept .size, row-low tb r shown))

@@ -19,7 +19,8 @@ use Rattle.meaning.proofs.Below.{every-elim, some-same}
 use Rattle.meaning.proofs.Shows.{Shows}
 use Rattle.sets.proofs.Bits.{bit-zero}
 use Rattle.meaning.proofs.Walk.{compared}
-use Rattle.table.specs.Index.{block, row, Indexed}
+use Rattle.records.specs.declared.Rec.{Rec}
+use Rattle.table.specs.Index.{block, row, row-of, Indexed}
 pub use Rattle.table.specs.Index.{base, width}
 
 -- THE EIGHT CLASSES OF RECORDS
@@ -211,6 +212,11 @@ block-plain (suc zero) s h = refl
 block-plain (suc (suc zero)) s h = refl
 block-plain (suc (suc (suc zero))) s h = absurd (h refl)
 block-plain (suc (suc (suc (suc k)))) s h = refl
+
+-- The row of an arc, of a record by itself.
+pub arc-row-of : (x : Rec) → x .kind ≡ 3 → row-of x ≡ block 3 (x .sort) + x .one
+unfolding row-of
+arc-row-of x e = rw e
 
 -- No block begins past 704.
 pub block-most : (k s : ℕ) → block k s ≤ 704

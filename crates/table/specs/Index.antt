@@ -11,7 +11,6 @@ use Rattle.meaning.specs.Table.{Table}
 use Rattle.meaning.specs.Defined.{fault, faulty}
 use Rattle.records.specs.declared.Rec.{Rec}
 use Rattle.table.specs.declared.Pass.{Pass}
-use Rattle.table.specs.declared.Named.{Named}
 
 -- The first row of each kind's block, the post arcs' left aside.
 abbrev pub plain-blocks : List ℕ
@@ -32,15 +31,15 @@ row-of x = cond (ltb 7 (x .kind)) 0 (block (x .kind) (x .sort) + x .one)
 pub record Indexed (tb : Table) (n : ℕ) (rows : List ℕ) : Type 0 where
   pub holds : (q y : ℕ) → q < 768 → y < 64 → bit (getD rows q 0) y ≡ some n (λ r. eqb (row tb r) q && eqb (tb .two r) y)
 
--- The larger of two numbers, and the highest byte 1 or byte 2 of the first n records, 0 where there is none.
+-- The larger of two numbers, and the highest byte 1 of the first n records, 0 where there is none.
 abbrev pub larger-of : ℕ → ℕ → ℕ
 larger-of a b = cond (ltb a b) b a
 
 unfoldable pub top : Table → ℕ → ℕ
 top tb zero = 0
-top tb (suc n) = larger-of (larger-of (top tb n) (tb .one n)) (tb .two n)
+top tb (suc n) = larger-of (top tb n) (tb .one n)
 
--- What the pass leaves: the place of the first record that meets 2, 3 or 4, its number, one more than the highest byte 1 or 2 of the records
+-- What the pass leaves: the place of the first record that meets 2, 3 or 4, its number, one more than the highest byte 1 of the records
 -- before it, and these records in the rows.
 pub record Scanned (tb : Table) (s : Pass) (rows : List ℕ) : Type 0 where
   pub at : s .at ≡ first (tb .records) (faulty tb)
@@ -62,11 +61,10 @@ base c = getD (0 ∷ 128 ∷ 192 ∷ 320 ∷ 448 ∷ 512 ∷ 576 ∷ 704 ∷ [])
 abbrev pub width : ℕ → ℕ
 width c = getD (128 ∷ 64 ∷ 128 ∷ 128 ∷ 64 ∷ 64 ∷ 128 ∷ 64 ∷ []) c 0
 
--- The index goes no further than n: from n on the rows of each class are empty, and no row has a bit from n on.
+-- The index goes no further than n: from n on the rows of each class are empty.
 pub record Reaches (rows : List ℕ) (n : ℕ) : Type 0 where
   pub most : n ≤ 128
   pub no-row : (c i y : ℕ) → c < 8 → n ≤ i → i < width c → y < 64 → bit (getD rows (base c + i) 0) y ≡ false
-  pub no-bit : (q y : ℕ) → q < 768 → n ≤ y → y < 64 → bit (getD rows q 0) y ≡ false
 
 -- Of the numbers below n, how many a transition can have.
 abbrev pub transitions-below : ℕ → ℕ
@@ -100,18 +98,25 @@ arc-bit rows p t = bit (getD rows (192 + p) 0) t || bit (getD rows (320 + p) 0) 
 abbrev pub prior : List ℕ → ℕ → ℕ → Bool
 prior rows u t = bit (getD rows (512 + u) 0) t
 
--- The rows that name place p have y; those that name transition t by their byte 1.
-abbrev pub names-place : List ℕ → ℕ → ℕ → Bool
-names-place rows p y = arc-bit rows p y || bit (getD rows (576 + p) 0) y
-
+-- The rows that name transition t by their byte 1 have y.
 abbrev pub names-transition : List ℕ → ℕ → ℕ → Bool
 names-transition rows t y = bit (getD rows (448 + t) 0) y || prior rows t y || bit (getD rows (704 + t) 0) y
 
--- Where the answer is yes: whichever of the first m is named is there, and the transitions have those of `before` and all that is added.
-pub record Knows (there : ℕ → Bool) (named added : ℕ → ℕ → Bool) (m before : ℕ) (r : Named) : Type 0 where
-  pub known : r .known ≡ true → (x y : ℕ) → x < m → y < 64 → named x y ≡ true → there x ≡ true
-  pub holds : r .known ≡ true → (x y : ℕ) → x < m → y < 64 → added x y ≡ true → bit (r .transitions) y ≡ true
-  pub keeps : r .known ≡ true → (y : ℕ) → bit before y ≡ true → bit (r .transitions) y ≡ true
+-- The first m places are sound: each is in the index exactly where it has arcs, and where it has an action; and the set has the transitions of their arcs.
+pub record Places-sound (rows : List ℕ) (m set : ℕ) : Type 0 where
+  pub places : (p : ℕ) → p < m → has-place rows p ≡ some 64 (arc-bit rows p)
+  pub carriers : (p y : ℕ) → p < m → y < 64 → bit (getD rows (576 + p) 0) y ≡ true → has-place rows p ≡ true
+  pub arced : (t : ℕ) → t < 64 → bit set t ≡ some m (λ p. arc-bit rows p t)
+
+-- None of 5, 6 and 7 applies: there is an arc, each place and each transition is in the index exactly where it has arcs, and whatever else names one
+-- names one that is there.
+pub record Sound (rows : List ℕ) : Type 0 where
+  pub places : (p : ℕ) → p < 128 → has-place rows p ≡ some 64 (arc-bit rows p)
+  pub carriers : (p y : ℕ) → p < 128 → y < 64 → bit (getD rows (576 + p) 0) y ≡ true → has-place rows p ≡ true
+  pub transitions : (t : ℕ) → t < 64 → has-transition rows t ≡ some 128 (λ p. arc-bit rows p t)
+  pub namers : (t y : ℕ) → t < 64 → y < 64 → names-transition rows t y ≡ true → has-transition rows t ≡ true
+  pub lower : (u t : ℕ) → u < 64 → t < 64 → prior rows u t ≡ true → has-transition rows t ≡ true
+  pub some-arc : (p : ℕ) × (t : ℕ) × (p < 128) × (t < 64) × (arc-bit rows p t ≡ true)
 
 -- 6: candidate 0, the index has no place; candidate 1, it has no transition.
 unfoldable pub none-of : List ℕ → ℕ → Bool

@@ -1,14 +1,14 @@
 // The index of a table: where each record is kept, in 768 rows of 64 bits; and what the index tells (answers 5, 6 and 7).
 use records::Rec;
 ghost use mathlib.Core.Path.{_≡_};
-ghost use mathlib.Core.Bool.{true, false, not, _&&_};
-ghost use Prim.Native.Nat.{ℕ, _+_, _<_, _≤_};
+ghost use mathlib.Core.Bool.{true, cond, not, _&&_};
+ghost use Prim.Native.Nat.{_+_, _<_, _≤_};
 ghost use lib.Dec.{eqb};
 ghost use lib.ListN.{getD};
 ghost use Rattle.meaning.specs.Below.{some, first};
 ghost use Rattle.meaning.specs.Bytes.{bit};
-ghost use Rattle.meaning.specs.Table.{Table, table};
-ghost use Rattle.table.specs.Index.{plain-blocks, block, row-of, larger-of, Clean, Reaches, transitions-below, has-place, has-transition, names-unknown, names-unknown-at, arc-bit, names-place, names-transition, prior, Knows, none-of, lone};
+ghost use Rattle.meaning.specs.Table.{table};
+ghost use Rattle.table.specs.Index.{plain-blocks, block, row-of, larger-of, Clean, Reaches, transitions-below, has-transition, names-unknown, names-unknown-at, Places-sound, Sound, none-of, lone};
 
 // The first row of each kind's block: places, transitions, input arcs, conditions, priorities, actions, functions. Row 320 begins the post arcs.
 const BLOCK: [usize; 8] = [0, 0, 128, 192, 448, 512, 576, 704];
@@ -50,6 +50,14 @@ pub fn row(x: Rec, blocks: &[usize; 8]) -> usize
     start(kind, x.sort, blocks) + records::wide(x.one)
 }
 
+// The row of the index for an arc at place `one`: post arcs have their own block.
+pub fn arc_row(one: usize, sort: u8) -> usize
+    requires { ⌜ one < 128 ⌝ }
+    ensures { λ r. ⌜ r ≡ block 3 sort + one ⌝ }
+{
+    if sort == 3 { 320 + one } else { 192 + one }
+}
+
 // The larger of two numbers.
 pub fn larger(a: usize, b: usize) -> usize
     ensures { λ r. ⌜ r ≡ larger-of a b ⌝ }
@@ -58,7 +66,7 @@ pub fn larger(a: usize, b: usize) -> usize
 }
 
 // What a pass over the records finds: at the first record that meets 2, 3 or 4 its number, else number 0 and at the number of records; and one
-// more than the highest byte 1 or byte 2 of the records before it.
+// more than the highest byte 1 of the records before it.
 pub struct Pass {
     pub number: u8,
     pub at: usize,
@@ -78,17 +86,6 @@ fn lacks(rows: &[u64; 768], q: usize) -> bool
     ensures { λ r. ⌜ r ≡ not (bit (getD (now (rows .entry)) q 0) 0) ⌝ }
 {
     !sets::has(rows[q], 0)
-}
-
-// Is something named of which the row lacks its bit 0?
-fn lost(line: u64, named: u64) -> bool
-    ensures { λ r. ⌜ r ≡ (not (bit line 0) && not (eqb named 0)) ⌝ }
-{
-    if sets::has(line, 0) {
-        false
-    } else {
-        named != 0
-    }
 }
 
 // Does the record name a place or a transition that the index does not have?
@@ -122,105 +119,97 @@ fn unknown(x: Rec, rows: &[u64; 768]) -> bool
     false
 }
 
-// What the index names: whether all of it is declared, as far as it was asked, and the transitions to be asked for.
+// What a walk over the places shows: whether all are sound, and the transitions of their arcs.
 struct Named {
-    known: bool,
-    transitions: u64,
+    sound: bool,
+    arced: u64,
 }
 
-// Has every place that an arc or an action names its bit 0? The transitions are those that the arcs name. None is at n or past it.
-fn places_known(rows: &[u64; 768], n: usize) -> Named
+// Is a place declared exactly where it has arcs, and without an action where it has none?
+fn place_sound(line: u64, arcs: u64, actions: u64) -> bool
+    ensures { λ r. ⌜ r ≡ cond (eqb arcs 0) (eqb actions 0 && not (bit line 0)) (bit line 0) ⌝ }
+{
+    if arcs == 0 {
+        if actions == 0 {
+            !sets::has(line, 0)
+        } else {
+            false
+        }
+    } else {
+        sets::has(line, 0)
+    }
+}
+
+// Are all places sound? None is at n or past it.
+fn places_sound(rows: &[u64; 768], n: usize) -> Named
     requires { ⌜ Reaches (now rows) n ⌝ }
-    ensures { λ r. ⌜ Knows (has-place (now (rows .entry))) (names-place (now (rows .entry))) (arc-bit (now (rows .entry))) 128 0 r ⌝ }
+    ensures { λ r. ⌜ (r .sound ≡ true → Places-sound (now (rows .entry)) 128 (r .arced)) ⌝ }
 {
     let mut named: u64 = 0;
     let mut p = 0;
     while p < n {
         let arcs = sets::union(rows[192 + p], rows[320 + p]);
-        if lost(rows[p], sets::union(arcs, rows[576 + p])) {
+        if !place_sound(rows[p], arcs, rows[576 + p]) {
             return Named {
-                known: false,
-                transitions: 0,
+                sound: false,
+                arced: 0,
             };
         }
         named = sets::union(named, arcs);
         p += 1;
     }
     Named {
-        known: true,
-        transitions: named,
+        sound: true,
+        arced: named,
     }
 }
 
-// Has every transition with a condition, a priority or a function its bit 0? The transitions are those of `before` and those below in a priority.
-// None is at n or past it.
-fn transitions_known(rows: &[u64; 768], before: u64, n: usize) -> Named
+// Does the index itself show that none of 5, 6 and 7 applies: there is an arc, each place and each transition is declared exactly where it has arcs,
+// and whatever else names one names such a one? None is at n or past it.
+pub fn sound(rows: &[u64; 768], n: usize) -> bool
     requires { ⌜ Reaches (now rows) n ⌝ }
-    ensures { λ r. ⌜ Knows (has-transition (now (rows .entry))) (names-transition (now (rows .entry))) (prior (now (rows .entry))) 64 before r ⌝ }
+    ensures { λ r. ⌜ (r ≡ true → Sound (now (rows .entry))) ⌝ }
 {
+    let places = places_sound(rows, n);
+    if !places.sound {
+        return false;
+    }
+    let arced = places.arced;
+    if arced == 0 {
+        return false;
+    }
     let most = transitions(n);
-    let mut named = before;
+    // the declared transitions, and those below in a priority
+    let mut there: u64 = 0;
+    let mut lower: u64 = 0;
     let mut t = 0;
     while t < most {
         let below = rows[512 + t];
-        if lost(
-            rows[128 + t],
-            sets::union(sets::union(rows[448 + t], below), rows[704 + t]),
-        ) {
-            return Named {
-                known: false,
-                transitions: 0,
-            };
+        let declared = sets::has(rows[128 + t], 0);
+        if declared {
+            there = sets::with(there, t);
+        } else {
+            if sets::union(sets::union(rows[448 + t], below), rows[704 + t]) != 0 {
+                return false;
+            }
         }
-        named = sets::union(named, below);
+        lower = sets::union(lower, below);
         t += 1;
     }
-    Named {
-        known: true,
-        transitions: named,
-    }
-}
-
-// Is each of these transitions in the index?
-fn declared(rows: &[u64; 768], set: u64) -> bool
-    ensures { λ r. ⌜ (r ≡ true → (t : ℕ) → t < 64 → bit set t ≡ true → has-transition (now (rows .entry)) t ≡ true) ⌝ }
-{
-    let mut left = set;
-    while left != 0 {
-        let t = sets::lowest(left);
-        if lacks(rows, 128 + t) {
-            return false;
-        }
-        left = sets::rest(left);
-    }
-    true
-}
-
-// Does the index itself show that no record names an unknown? None is at n or past it.
-fn all_known(rows: &[u64; 768], n: usize) -> bool
-    requires { ⌜ Reaches (now rows) n ⌝ }
-    ensures { λ r. ⌜ ((tb : Table) → Clean tb (now (rows .entry)) → r ≡ true → (k : ℕ) → k < tb .records → names-unknown-at tb (now (rows .entry)) k ≡ false) ⌝ }
-{
-    let places = places_known(rows, n);
-    if !places.known {
+    if there != arced {
         return false;
     }
-    let others = transitions_known(rows, places.transitions, n);
-    if !others.known {
-        return false;
-    }
-    declared(rows, others.transitions)
+    sets::less(lower, there) == 0
 }
 
-// The first record that names an unknown, or the number of records. The records are searched only where the index does not show that there is none;
-// it goes no further than n.
-pub fn first_unknown(t: &[u8], rows: &[u64; 768], n: usize) -> usize
+// The first record that names an unknown, or the number of records. The records are searched only where the index is not known to be sound.
+pub fn first_unknown(t: &[u8], rows: &[u64; 768], sound: bool) -> usize
     requires { ⌜ Clean (table (now t)) (now rows) ⌝ }
-    requires { ⌜ Reaches (now rows) n ⌝ }
+    requires { ⌜ (sound ≡ true → Sound (now rows)) ⌝ }
     ensures { λ r. ⌜ r ≡ first (table (now (t .entry)) .records) (names-unknown-at (table (now (t .entry))) (now (rows .entry))) ⌝ }
 {
     let count = t.len() / 8;
-    if all_known(rows, n) {
+    if sound {
         return count;
     }
     let mut r = 0;
@@ -248,11 +237,15 @@ fn none_in(rows: &[u64; 768], from: usize, count: usize) -> bool
     true
 }
 
-// 0 if the index has no place, else 1 if it has no transition, else 2. None is at n or past it.
-pub fn first_none(rows: &[u64; 768], n: usize) -> usize
+// 0 if the index has no place, else 1 if it has no transition, else 2; an index that is sound has both. None is at n or past it.
+pub fn first_none(rows: &[u64; 768], n: usize, sound: bool) -> usize
     requires { ⌜ Reaches (now rows) n ⌝ }
+    requires { ⌜ (sound ≡ true → Sound (now rows)) ⌝ }
     ensures { λ r. ⌜ r ≡ first 2 (none-of (now (rows .entry))) ⌝ }
 {
+    if sound {
+        return 2;
+    }
     if none_in(rows, 0, n) {
         return 0;
     }
@@ -296,11 +289,15 @@ fn first_transition(rows: &[u64; 768], arcs: u64, n: usize) -> usize
     64
 }
 
-// The first place with no arc, else 128 and the first transition with no arc, else 192. None is at n or past it.
-pub fn first_lone(rows: &[u64; 768], n: usize) -> usize
+// The first place with no arc, else 128 and the first transition with no arc, else 192, as in an index that is sound. None is at n or past it.
+pub fn first_lone(rows: &[u64; 768], n: usize, sound: bool) -> usize
     requires { ⌜ Reaches (now rows) n ⌝ }
+    requires { ⌜ (sound ≡ true → Sound (now rows)) ⌝ }
     ensures { λ r. ⌜ r ≡ first 192 (lone (now (rows .entry))) ⌝ }
 {
+    if sound {
+        return 192;
+    }
     let mut all: u64 = 0;
     let mut p = 0;
     while p < n {

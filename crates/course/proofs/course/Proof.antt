@@ -1,5 +1,4 @@
--- `course` meets its contract: with no words nothing is done; else the rows are those of the table, the cycles leave the trace, and the image of its
--- last state is written.
+-- `course` meets its contract: the rows are those of the table, the cycles leave the trace, and the image of its last state is written.
 use mathlib.Core.Path.{refl, _∙_}
 use Prim.Native.Nat.{ℕ}
 use native.Mathlib.Omega.{arith}
@@ -7,57 +6,39 @@ use lib.ListN.{length-replicate}
 use borrow.Author.Needs.{needs}
 use Rattle.table.proofs.Firsts.{few-transitions}
 use Rattle.course.proofs.Rows.{net-of, timeless, unasked, unranked}
-use Rattle.course.proofs.Turns.{no-words}
 use Rattle.course.proofs.course.Statement.{statement}
 use Rattle.course.proofs.course.Tie as tie
 
-returns : tie.Need-returns
-returns c =
-    let start = c .before .before .before .before .before in
-    no-words _ _ _ _ (start .pre .0 .sound) (start .pre .1 .1 .1) (c .if1 .taken)
-
 lay-arcs-requires : tie.Need-lay-arcs-requires
 lay-arcs-requires c κs =
-    let pre = c .before .before .before .before .before .before .before .before .before .before .before .before .pre in
-    (pre .0 .sound, (pre .1 .0, (pre .1 .1 .0, (refl, (refl, (length-replicate {A = ℕ} 1024 0, (refl, refl)))))))
+    let pre = c .before .before .before .before .before .before .before .before .before .before .before .pre in
+    (pre .0 .sound, ((pre .1 .0, pre .1 .1 .0, refl), (refl, refl, refl, refl)))
 
 transitions-requires : tie.Need-transitions-requires
 transitions-requires c κs = search needs
 
--- The way back: from the cycles to the limits, from there to the sorted arcs, to where the transitions below the reach are counted, and to the start.
+-- The way back: from the cycles to the limits, from there to the bound, to where the transitions below the reach are counted, and to the start.
 abbrev begun : tie.After-transitions → tie.Start
-begun c = c .before .before .before .before .before .before .before .before .before .before .before .before .before .before
+begun c = c .before .before .before .before .before .before .before .before .before .before .before .before .before
 
-abbrev counted : tie.After-sort-arcs → tie.After-transitions
-counted c = c .before .before .before .before .before .before .before .before .before .before .before .before .before .before .before .before
+abbrev counted : tie.After-bound → tie.After-transitions
+counted c = c .before .before .before .before .before .before
 
-abbrev sorted : tie.After-limits → tie.After-sort-arcs
-sorted c = c .before .before .before .before .before .before .before .before .before .before .before .before .before .before
+abbrev bounded : tie.After-limits → tie.After-bound
+bounded c = c .before .before .before .before .before .before .before .before .before .before .before .before .before
 
 abbrev limited : tie.After-far2 → tie.After-limits
 limited c =
-    let lent = c .before .before .before .before .before .before .before .before .before in
-    lent .before .before .before .before .before .before .before .before .before .before .before .before
-
-turn-requires : tie.Need-turn-requires
-turn-requires c κs =
-    let fewer = c .before in
-    (rw (fewer .transitions .ensures) (begun fewer .pre .0 .bare), refl)
-
-inputs-of-requires : tie.Need-inputs-of-requires
-inputs-of-requires c κs = (begun (c .before .before .before .before) .pre .0 .reaches, (refl, refl))
+    let lent = c .before .before .before .before .before .before .before .before in
+    lent .before .before .before .before .before .before .before .before .before
 
 rivals-requires : tie.Need-rivals-requires
 rivals-requires c κs =
-    let turned = c .before .before .before .before .before .before .before in
-    let fewer = turned .before .before in
-    (unranked (begun fewer .pre .0) _ (fewer .transitions .ensures) _ (turned .turn .ensures), refl)
+    let fewer = c .before .before .before in
+    (unranked (begun fewer .pre .0) _ (fewer .transitions .ensures), refl)
 
 bound-requires : tie.Need-bound-requires
-bound-requires c κs = (search needs, begun (c .before .before .before .before .before .before .before .before .before .before .before) .pre .0 .reaches)
-
-sort-arcs-requires : tie.Need-sort-arcs-requires
-sort-arcs-requires c κs = ((refl, refl), c .before .before .before .bound .ensures)
+bound-requires c κs = (search needs, begun (c .before .before .before .before .before) .pre .0 .reaches)
 
 known-requires : tie.Need-known-requires
 known-requires c κs = begun (counted c) .pre .0 .reaches
@@ -70,37 +51,34 @@ timed-requires c κs =
 
 conditional-requires : tie.Need-conditional-requires
 conditional-requires c κs =
-    let arcs = c .before .before .before .before in
-    let fewer = counted arcs .transitions .ensures in
-    let read = begun (counted arcs) .pre .0 in
-    ((search needs, search needs), (unasked read _ fewer (read .truths-hold), unasked read _ fewer (read .falses-hold)))
+    let bound = c .before .before .before in
+    let fewer = counted bound .transitions .ensures in
+    let start = begun (counted bound) in
+    ((search needs, omega (arith, fewer, few-transitions (start .args .reach))), unasked (start .pre .0) _ fewer)
 
 limits-requires : tie.Need-limits-requires
 limits-requires c κs =
-    let arcs = c .before .before .before .before .before .before .before .before .before .before .before .before .before in
-    let fewer = counted arcs .transitions .ensures in
-    let start = begun (counted arcs) in
+    let bound = c .before .before .before .before .before .before .before .before .before .before .before .before in
+    let fewer = counted bound .transitions .ensures in
+    let start = begun (counted bound) in
     ((refl, refl, omega (arith, fewer, few-transitions (start .args .reach))), timeless (start .pre .0) _ fewer)
 
 cycles-requires : tie.Need-cycles-requires
 cycles-requires c κs =
     let asked = limited c .before .before .before .before .before .before .before .before .before in
-    let timed = asked .before .before .before in
+    let timed = asked .before .before in
     let known = timed .before in
-    let bound = sorted (limited c) .before .before .before .before in
+    let bound = known .before in
     let rivals = bound .before .before in
-    let inputs = rivals .before .before .before .before .before in
-    let turned = inputs .before .before .before in
-    let fewer = turned .before .before in
+    let fewer = rivals .before .before .before .before in
     let arcs = fewer .before .lay-arcs .ensures in
     let given = begun fewer .pre in (
-      net-of (given .0) _ (known .known .ensures) _ (timed .timed .ensures) _ (asked .conditional .ensures) _ (turned .turn .ensures)
-          _ (bound .bound .ensures) _ _ (limited c .limits .ensures) _ (inputs .inputs-of .ensures) _ _ (rivals .rivals2 .ensures)
-          _ _ (arcs .0 .0) (arcs .0 .1) _ _ (sorted (limited c) .sort-arcs .ensures) _ _ _ _ _ (arcs .1 .0 .0) (arcs .1 .0 .1) (arcs .1 .1 .0),
+      net-of (given .0) _ (known .known .ensures) _ (timed .timed .ensures) _ (asked .conditional .ensures) _ (bound .bound .ensures)
+          _ _ (limited c .limits .ensures) _ _ (arcs .1 .1 .0) _ _ (rivals .rivals2 .ensures) _ _ (arcs .0 .0) (arcs .0 .1) _ (arcs .1 .0) _ _ (arcs .1 .1 .1 .0),
       (
-        arcs .1 .1 .1 .0,
+        arcs .1 .1 .1 .1 .0,
         (
-          arcs .1 .1 .1 .1,
+          arcs .1 .1 .1 .1 .1,
           (record { places = length-replicate {A = ℕ} 128 0; transitions = length-replicate {A = ℕ} 64 0 }, given .1 .1 .1),
         ),
       ),
@@ -109,7 +87,7 @@ cycles-requires c κs =
 keep-requires : tie.Need-keep-requires
 keep-requires c κs =
     let done = c .before .before .before .before .before in
-    (begun (counted (sorted (limited (done .before)))) .pre .1 .1 .1 .long, done .cycles .ensures .small)
+    (begun (counted (bounded (limited (done .before)))) .pre .1 .1 .1 .long, done .cycles .ensures .small)
 
 same-length : tie.Need-same-length
 same-length c = search needs
@@ -117,8 +95,8 @@ same-length c = search needs
 same-length-2 : tie.Need-same-length-2
 same-length-2 c = search needs
 
-returns-2 : tie.Need-returns-2
-returns-2 c =
+returns : tie.Need-returns
+returns c =
     let kept = c .before .before in
     let halts = kept .before .before .before .before .before .before .cycles .ensures in
     record { answer-is = halts .answer-is; image-is = kept .keep .ensures ∙ halts .image-is; report-is = halts .report-is }
@@ -127,14 +105,10 @@ pub course-spec : {M : Type 1} → statement M
 course-spec =
     tie.close
     (tie.spec
-    returns
     lay-arcs-requires
     transitions-requires
-    turn-requires
-    inputs-of-requires
     rivals-requires
     bound-requires
-    sort-arcs-requires
     known-requires
     timed-requires
     conditional-requires
@@ -143,4 +117,4 @@ course-spec =
     keep-requires
     same-length
     same-length-2
-    returns-2)
+    returns)

@@ -1,10 +1,9 @@
 -- `cycles` meets its contract: each turn is one step of the meaning's run.
-use mathlib.Core.Path.{_≡_, refl, sym, _∙_}
-use Prim.Native.Nat.{ℕ, _+_, _*_, _/_, _-_, _≤_, _<_}
+use mathlib.Core.Path.{_≡_, refl, sym}
+use Prim.Native.Nat.{ℕ, _+_, _/_, _-_, _≤_, _<_}
 use native.Mathlib.Numerals.{add-one}
 use native.Mathlib.Omega.{arith}
 use lib.ListN.{length, getD, length-replicate}
-use borrow.Author.Needs.{needs}
 use Rattle.enabled.proofs.Held.{none-set}
 use Rattle.cycle.specs.Step.{Sized, Poised}
 use Rattle.course.proofs.Turns.{At, begins, bursts, turned, finished, out-length}
@@ -12,12 +11,12 @@ use Rattle.course.proofs.cycles.Statement.{statement}
 use Rattle.course.proofs.cycles.Tie as tie
 
 abbrev Inv-loop : tie.InvT-loop
-Inv-loop t image words report₀ tokens₀ counters₀ known timed conditional lower n gain sorts a b limit last index rivals w s takers low high plain curbs takes puts next near far truths falses count orders₀ held₀ shown₀ from₀ upto₀ before₀ taken₀ put₀ top₀ i₀ report tokens counters orders held shown from upto before taken put top i =
+Inv-loop t image words report₀ tokens₀ counters₀ known timed conditional lower n gain sorts a b limit last index rivals w s takers low high curbs heads next near far truths count orders₀ held₀ shown₀ from₀ upto₀ before₀ taken₀ put₀ top₀ i₀ report tokens counters orders held shown from upto before taken put top i =
     (count ≡ length words / 8) × (i ≤ count) × At t image words report₀ i (record { tokens = tokens; counters = counters; orders = orders }) report
     × Sized tokens counters × Poised index w s tokens held shown from upto taken put × (top ≤ 65535 + gain) × ((p : ℕ) → p < 128 → getD tokens p 0 ≤ top)
 
 abbrev μ-loop : tie.MeasureT-loop
-μ-loop t image words report₀ tokens₀ counters₀ known timed conditional lower n gain sorts a b limit last index rivals w s takers low high plain curbs takes puts next near far truths falses count orders₀ held₀ shown₀ from₀ upto₀ before₀ taken₀ put₀ top₀ i₀ report tokens counters orders held shown from upto before taken put top i = count - i
+μ-loop t image words report₀ tokens₀ counters₀ known timed conditional lower n gain sorts a b limit last index rivals w s takers low high curbs heads next near far truths count orders₀ held₀ shown₀ from₀ upto₀ before₀ taken₀ put₀ top₀ i₀ report tokens counters orders held shown from upto before taken put top i = count - i
 
 load-requires : tie.Need-load-requires Inv-loop μ-loop
 load-requires c κs =
@@ -28,7 +27,7 @@ hold-requires : tie.Need-hold-requires Inv-loop μ-loop
 hold-requires c κs =
     let net = c .before .before .before .before .before .before .before .before .before .before .before .before .pre .0 in
     let small = c .before .before .before .before .before .load .ensures .1 .0 in
-    ((refl, refl, refl, refl), (net .arcs, (net .within, λ p h. omega (arith, small .tokens p h))))
+    ((refl, refl, refl, refl), (net .curbed, (net .within, λ p h. omega (arith, small .tokens p h))))
 
 loop-holds : tie.Need-loop-holds Inv-loop μ-loop
 loop-holds c =

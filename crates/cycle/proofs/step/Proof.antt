@@ -1,18 +1,15 @@
 -- `step` meets its contract: each part says of the rows what `Whole` carries to the table.
-use mathlib.Core.Bool.{Bool, _&&_, _||_}
-use mathlib.Core.List.{List}
-use mathlib.Core.Path.{_≡_, refl, sym, _∙_}
-use Prim.Native.Nat.{ℕ, _^_, _≤_, _<_}
+use mathlib.Core.Bool.{_&&_, _||_}
+use mathlib.Core.Path.{_≡_, _∙_}
+use Prim.Native.Nat.{ℕ, _^_, _<_}
 use native.Mathlib.Omega.{arith}
 use lib.Bits.{bitAnd}
-use lib.Dec.{ltb}
-use lib.ListN.{getD}
 use borrow.Author.Needs.{needs}
 use Rattle.meaning.specs.Bytes.{bit}
 use Rattle.sets.proofs.Bits.{bit-and}
 use Rattle.fire.proofs.Carry.{no-rivals}
 use Rattle.edges.proofs.Sorts.{falls-is, firable-is}
-use Rattle.cycle.proofs.Whole.{ranks, weighty, Told, low-enough, crowded, only-crowded, bursts, stepped, poised, topped-still}
+use Rattle.cycle.proofs.Whole.{ranks, wanted-looked, weighty, Told, low-enough, crowded, only-crowded, bursts, stepped, poised, topped-still}
 use Rattle.cycle.proofs.step.Statement.{statement}
 use Rattle.cycle.proofs.step.Tie as tie
 
@@ -32,7 +29,9 @@ fall-requires : tie.Need-fall-requires
 fall-requires c κs = c .before .before .before .before .before .before .before .before .before .before .pre .1 .1 .0 .transitions
 
 firable-requires : tie.Need-firable-requires
-firable-requires c κs = c .before .before .before .before .before .before .before .before .before .before .before .pre .0 .conditional-is
+firable-requires c κs =
+    let net = c .before .before .before .before .before .before .before .before .before .before .before .pre .0 in
+    (net .conditional-is, wanted-looked net)
 
 fired-requires : tie.Need-fired-requires
 fired-requires c κs =
@@ -44,7 +43,7 @@ tally-requires c κs =
     let start = c .before .before .before .before .before .before .before .before .before .before .before .before .before .before .before .before in
     let net = start .pre .0 in
     let poised = start .pre .1 .1 .1 .0 in
-    (net .sound, ((net .taking, net .putting), (net .touching, (poised .none-taken, poised .none-put))))
+    (net .sound, (net .chains, (net .touching, (poised .none-taken, poised .none-put))))
 
 -- The fired set and the functions are one word each, and so are the actions.
 fired-low : (c : tie.After-fired) → c .fired .result < 2 ^ 64
@@ -76,7 +75,7 @@ told c =
       falls = falls-is _ _ _ (net .limits) (start .args .timed) (net .timed-is) _ _ _ _ (fall .0);
       able = _;
       able-is =
-          firable-is _ _ _ (net .limits) (start .args .timed) (net .timed-is) _ _ _ _ (fall .0) _ (fall .1) (start .args .truths .now) (start .args .falses .now)
+          firable-is _ _ _ (net .limits) (start .args .timed) (net .timed-is) _ _ _ _ (fall .0) _ (fall .1) (start .args .index .now) (start .args .truths .now)
           (start .args .word) _ (c .before .before .before .before .before .firable .ensures);
       low-set = fired-low (c .before .before .before);
       fires = c .before .before .before .fired .ensures;
@@ -108,7 +107,7 @@ settle-requires c κs =
     let net = start .pre .0 in
     let tally = c .before .before .before .before .before .before .before .before .before .before .before .before .before in (
       low-enough net (told tally),
-      ((start .pre .1 .1 .0 .places, tally .tally .ensures .sizes .0, tally .tally .ensures .sizes .1), (net .arcs, (weighty net, start .pre .1 .1 .1 .0 .levels))),
+      ((start .pre .1 .1 .0 .places, tally .tally .ensures .sizes .0, tally .tally .ensures .sizes .1), (net .curbed, (weighty net, start .pre .1 .1 .1 .0 .levels))),
     )
 
 union-requires : tie.Need-union-requires

@@ -11,9 +11,9 @@ use lib.ListN.{length, getD, length-set}
 use borrow.Author.Needs.{needs}
 use Rattle.meaning.specs.Bytes.{bit}
 use Rattle.sets.proofs.Bits.{bit-zero, bit-and}
-use Rattle.sets.proofs.Members.{lowest-in, falls}
+use Rattle.sets.proofs.Members.{lowest-in, falls, kept}
 use Rattle.edges.specs.Edges.{in-span}
-use Rattle.edges.proofs.Step.{comes-to, one-written, all-written, one-kept, all-kept, stops, rises, both-walks}
+use Rattle.edges.proofs.Step.{comes-to, one-written, all-written, all-kept, stops, rises, both-walks}
 use Rattle.edges.proofs.fall.Statement.{statement}
 use Rattle.edges.proofs.fall.Tie as tie
 
@@ -163,8 +163,8 @@ loop2-again c =
       length-set (at .counters) t (put .result) ∙ at .inv .1,
       λ j. one-written (at .left) t (c .rest2 .result) less (k .1) f (at .counters) (put .result) (omega (arith, k .0, at .inv .1)) risen j ∙ at .inv .2 j,
       λ j. ⊎-elim
-          (λ y. rw (y .2) (one-kept (at .left) t (c .rest2 .result) less (k .1) q (at .ready) (y .1 .result) true (k .0) (sym (y .0 .taken) ∙ says) (y .1 .ensures) j ∙ at .inv .3 j))
-          (λ y. rw (y .1) (one-kept (at .left) t (c .rest2 .result) less (k .1) q (at .ready) (at .ready) false (k .0) (sym (y .0 .left) ∙ says) (λ j. sym (or-false _)) j ∙ at .inv .3 j))
+          (λ y. rw (y .2) (kept (at .left) t (c .rest2 .result) less q (at .ready) (y .1 .result) true (k .0) (k .1) (sym (y .0 .taken) ∙ says) (y .1 .ensures) j ∙ at .inv .3 j))
+          (λ y. rw (y .1) (kept (at .left) t (c .rest2 .result) less q (at .ready) (at .ready) false (k .0) (k .1) (sym (y .0 .left) ∙ says) (λ j. sym (or-false _)) j ∙ at .inv .3 j))
           (c .before .if1 .came),
     )
 

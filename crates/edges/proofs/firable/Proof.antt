@@ -2,7 +2,7 @@
 use mathlib.Core.Bool.{Bool, true, false, not, _&&_, _||_, and-true}
 use mathlib.Core.Logic.{⊎-elim}
 use mathlib.Core.Path.{_≡_, refl, sym, _∙_}
-use Prim.Native.Nat.{ℕ, _^_, _<_}
+use Prim.Native.Nat.{ℕ, _+_, _^_, _<_}
 use native.Mathlib.Omega.{arith}
 use lib.Bits.{and-le-l}
 use lib.Dec.{eqb}
@@ -17,14 +17,14 @@ use Rattle.edges.proofs.firable.Statement.{statement}
 use Rattle.edges.proofs.firable.Tie as tie
 
 abbrev Inv-loop : tie.InvT-loop
-Inv-loop on timed ready conditional truths falses word able₀ left₀ able left =
+Inv-loop on timed ready conditional index truths word able₀ left₀ able left =
     (left < 2 ^ 64) × (able < 2 ^ 64)
     × ((t : ℕ) →
-    (bit able t && (not (bit left t) || as-asked (getD truths t 0) (getD falses t 0) word))
-    ≡ (bit able₀ t && (not (bit left₀ t) || as-asked (getD truths t 0) (getD falses t 0) word)))
+    (bit able t && (not (bit left t) || as-asked (getD index (448 + t) 0) (getD truths t 0) word))
+    ≡ (bit able₀ t && (not (bit left₀ t) || as-asked (getD index (448 + t) 0) (getD truths t 0) word)))
 
 abbrev μ-loop : tie.MeasureT-loop
-μ-loop on timed ready conditional truths falses word able₀ left₀ able left = left
+μ-loop on timed ready conditional index truths word able₀ left₀ able left = left
 
 less-requires : tie.Need-less-requires Inv-loop μ-loop
 less-requires c κs = search needs
@@ -43,6 +43,9 @@ member : (c : tie.After-lowest Inv-loop μ-loop) → (c .lowest .result < 64) ×
 member c =
     lowest-in (c .before .before .loop .left) (c .lowest .result) (c .before .before .loop .inv .0) (c .before .loop-test .taken) (c .lowest .ensures)
 
+add-asked : tie.Need-add-asked Inv-loop μ-loop
+add-asked c = omega (arith, member c .0)
+
 mul-asked : tie.Need-mul-asked Inv-loop μ-loop
 mul-asked c = omega (arith, member c .0)
 
@@ -56,7 +59,9 @@ element-copy-out-asked-2 : tie.Need-element-copy-out-asked-2 Inv-loop μ-loop
 element-copy-out-asked-2 c = omega (arith, member (c .before) .0)
 
 asked-requires : tie.Need-asked-requires Inv-loop μ-loop
-asked-requires c κs = search needs
+asked-requires c κs =
+    let taken = c .before .before in
+    λ k l. taken .before .before .before .before .before .pre .1 (taken .lowest .result) k (member taken .0) l
 
 without-requires : tie.Need-without-requires Inv-loop μ-loop
 without-requires c κs = search needs
@@ -78,7 +83,7 @@ loop-again c =
     let a = taken .before .before .before .before .before .args in
     let k = member taken in
     let t : ℕ = taken .lowest .result in
-    let q : ℕ → Bool = λ t. as-asked (getD (a .truths .now) t 0) (getD (a .falses .now) t 0) (a .word) in
+    let q : ℕ → Bool = λ t. as-asked (getD (a .index .now) (448 + t) 0) (getD (a .truths .now) t 0) (a .word) in
     let less : (j : ℕ) → bit (c .rest .result) j ≡ (bit (at .left) j && not (eqb t j)) = λ j. rw (taken .lowest .ensures) (c .rest .ensures j) in (
       omega arith,
       ⊎-elim (λ y. rw (y .2) (omega arith)) (λ y. rw (y .1) (at .inv .1)) (c .before .if1 .came),
@@ -93,13 +98,13 @@ returns c =
     let at = c .before .loop in
     let start = c .before .before in
     let a = start .before .before .args in
-    let q : ℕ → Bool = λ t. as-asked (getD (a .truths .now) t 0) (getD (a .falses .now) t 0) (a .word) in
+    let q : ℕ → Bool = λ t. as-asked (getD (a .index .now) (448 + t) 0) (getD (a .truths .now) t 0) (a .word) in
     let first : (t : ℕ) → bit (start .union .result) t ≡ ((bit (a .on) t && not (bit (a .timed) t)) || bit (a .ready) t) =
     λ t. start .union .ensures t ∙ rw (start .before .less .ensures t) in
     let below : (t : ℕ) → t < 64 → bit (at .able) t ≡ (((bit (a .on) t && not (bit (a .timed) t)) || bit (a .ready) t) && q t) =
     λ t h.
     all-asked (start .union .result) (a .conditional) (at .left) (at .able) t (q t) (c .loop-test .left)
-    (λ e. unasked (getD (a .truths .now) t 0) (getD (a .falses .now) t 0) (a .word) (sym (start .before .before .pre t h) ∙ e)) (at .inv .2 t)
+    (λ e. unasked (getD (a .index .now) (448 + t) 0) (getD (a .truths .now) t 0) (a .word) (sym (start .before .before .pre .0 t h) ∙ e)) (at .inv .2 t)
     ∙ rw (first t) in
     below-64 _ (at .able) (at .inv .1) below
 
@@ -113,6 +118,7 @@ firable-spec =
     union-requires
     loop-holds
     lowest-requires
+    add-asked
     mul-asked
     element-copy-out-asked
     mul-asked-2

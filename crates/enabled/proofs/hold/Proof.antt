@@ -1,7 +1,7 @@
 -- The loop keeps that the rows passed span the tokens of their places, and that the others are as they were lent.
 use mathlib.Core.Bool.{Bool, true, false}
 use mathlib.Core.List.{List}
-use mathlib.Core.Path.{_≡_, refl, sym, ap, _∙_}
+use mathlib.Core.Path.{_≡_, refl, ap, _∙_}
 use Prim.Native.Nat.{ℕ, _+_, _-_, _≤_, _<_}
 use native.Mathlib.Omega.{arith}
 use lib.Dec.{ltb, eqb}
@@ -57,12 +57,12 @@ all-spanned index w s m held shown from upto n p none l four few passed to-come 
         (none-spans index w s q 0 4294967295 (none .no-arc q (omega (arith, past, l)) h) (none .no-action q (omega (arith, past, l)) h), omega arith, few q h)
 
 abbrev Inv-loop : tie.InvT-loop
-Inv-loop m index plain curbs w s n held₀ shown₀ from₀ upto₀ p₀ held shown from upto p =
+Inv-loop m index curbs w s n held₀ shown₀ from₀ upto₀ p₀ held shown from upto p =
     (p ≤ n) × Four held shown from upto × ((q : ℕ) → q < p → Spanned index w s m held shown from upto q)
     × ((q : ℕ) → p ≤ q → q < 128 → Lent held shown from upto q)
 
 abbrev μ-loop : tie.MeasureT-loop
-μ-loop m index plain curbs w s n held₀ shown₀ from₀ upto₀ p₀ held shown from upto p = n - p
+μ-loop m index curbs w s n held₀ shown₀ from₀ upto₀ p₀ held shown from upto p = n - p
 
 loop-holds : tie.Need-loop-holds Inv-loop μ-loop
 loop-holds c =

@@ -10,9 +10,9 @@ use borrow.Author.Tests.{eqb-true, eqb-false}
 use Rattle.meaning.specs.Bytes.{bit}
 use Rattle.meaning.proofs.Bool.{not-both}
 use Rattle.sets.proofs.Bits.{bit-zero}
-use Rattle.sets.proofs.Members.{lowest-in, falls}
+use Rattle.sets.proofs.Members.{lowest-in, falls, kept}
 use Rattle.enabled.proofs.Held.{levelled, emptied}
-use Rattle.enabled.proofs.Walk.{kept, none-kept, all-in}
+use Rattle.enabled.proofs.Walk.{none-kept, all-in}
 use Rattle.enabled.proofs.level_of.Statement.{statement}
 use Rattle.enabled.proofs.level_of.Tie as tie
 

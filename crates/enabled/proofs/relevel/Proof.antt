@@ -1,15 +1,11 @@
 -- Each of the four rows is written once, at place p.
-use mathlib.Core.Path.{_≡_, refl, sym, ap, _∙_}
-use Prim.Native.Nat.{ℕ, _+_, _^_, _<_}
+use mathlib.Core.Path.{sym, ap, _∙_}
+use Prim.Native.Nat.{_+_}
 use native.Mathlib.Omega.{arith}
-use lib.Dec.{eqb}
 use lib.ListN.{getD, length-set}
 use lib.Seq.{getD-set-same, getD-set-other}
-use mathlib.Core.Bool.{Bool, cond, _||_}
+use mathlib.Core.Bool.{Bool, cond}
 use borrow.Author.Needs.{needs}
-use Rattle.meaning.specs.Bytes.{bit}
-use Rattle.sets.proofs.Bits.{bit-and}
-use Rattle.enabled.specs.Held.{held-by}
 use Rattle.enabled.proofs.Held.{row-held}
 use Rattle.enabled.proofs.relevel.Statement.{statement}
 use Rattle.enabled.proofs.relevel.Tie as tie
@@ -32,12 +28,6 @@ index-1-level-of c = search needs
 level-of-requires : tie.Need-level-of-requires
 level-of-requires c κs = search needs
 
-mul-union : tie.Need-mul-union
-mul-union c = search needs
-
-element-copy-out-union : tie.Need-element-copy-out-union
-element-copy-out-union c = search needs
-
 mul-less : tie.Need-mul-less
 mul-less c = search needs
 
@@ -46,6 +36,15 @@ element-copy-out-less c = search needs
 
 less-requires : tie.Need-less-requires
 less-requires c κs = search needs
+
+mul-less-2 : tie.Need-mul-less-2
+mul-less-2 c = search needs
+
+element-copy-out-less-2 : tie.Need-element-copy-out-less-2
+element-copy-out-less-2 c = search needs
+
+less-requires-2 : tie.Need-less-requires-2
+less-requires-2 c κs = search needs
 
 union-requires : tie.Need-union-requires
 union-requires c κs = search needs
@@ -88,13 +87,14 @@ element-write-upto c = search needs
 
 returns : tie.Need-returns
 returns c =
-    let level-of = c .before .before .before .before .before .before in
+    let joins = c .before .before in
+    let level-of = joins .before .before .before .before .before in
     let start = level-of .before .before .before in
     let a = start .args in
     let four = start .pre .1 .1 in
     let x = level-of .level-of .ensures in
     let place = start .pre .0 .0 in
-    let here-held = getD-set-same (a .held .now) (a .p) (c .before .before .union .result) 0 (omega (arith, four .0)) in
+    let here-held = getD-set-same (a .held .now) (a .p) (joins .union .result) 0 (omega (arith, four .0)) in
     let here-shown = getD-set-same (a .shown .now) (a .p) (c .shows .result) 0 (omega (arith, four .1)) in
     let here-from = getD-set-same (a .from .now) (a .p) (level-of .level-of .result .from) 0 (omega (arith, four .2)) in
     let here-upto = getD-set-same (a .upto .now) (a .p) (level-of .level-of .result .upto) 0 (omega (arith, four .3)) in
@@ -109,7 +109,7 @@ returns c =
           record {
             holds = λ k l h.
                 row-held (start .pre .1 .0) (a .p) place (a .w .now) k (level-of .level-of .result .short) _ (omega arith) (x .short-is k l h)
-                (λ t. c .before .before .union .ensures t ∙ rw (bit-and (level-of .level-of .result .short) (getD (a .plain .now) (a .p) 0) t, c .before .before .before .less .ensures t));
+                (λ t. joins .union .ensures t ∙ rw (joins .before .before .before .less .ensures t, joins .before .less2 .ensures t));
             shows = λ k l h. c .shows .ensures ∙ ap (λ (b : Bool). cond b 0 (getD (a .index .now) (576 + a .p) 0)) (sym (x .empty k l h));
           };
       inside = rw (here-from, here-upto) (x .inside);
@@ -131,11 +131,12 @@ relevel-spec =
     mul-level-of-2
     index-1-level-of
     level-of-requires
-    mul-union
-    element-copy-out-union
     mul-less
     element-copy-out-less
     less-requires
+    mul-less-2
+    element-copy-out-less-2
+    less-requires-2
     union-requires
     mul-held
     element-write-held

@@ -1,8 +1,8 @@
 -- `follow` meets its contract: what is moved and what the chain still has to move is what was moved and what u moves; the chain is walked arc by arc.
 use mathlib.Core.Bool.{true}
 use mathlib.Core.List.{List}
-use mathlib.Core.Path.{_≡_, refl, sym, ap, _∙_}
-use Prim.Native.Nat.{ℕ, suc, _+_, _-_, _≤_, _<_}
+use mathlib.Core.Path.{_≡_, refl, sym, ap, ap₂, _∙_}
+use Prim.Native.Nat.{ℕ, suc, _+_, _-_, _*_, _≤_, _<_}
 use native.Mathlib.Omega.{arith}
 use lib.Dec.{eqb}
 use lib.ListN.{getD}
@@ -33,17 +33,32 @@ at-link tb sort u n at h e =
     record { inside = omega (arith, e, link-le n (arc-of tb sort u)); own = λ r z. link-passes n (arc-of tb sort u) r (sym e ∙ z) }
 
 abbrev Inv-loop : tie.InvT-loop
-Inv-loop t moved₀ firsts next u sort link₀ moved at =
+Inv-loop t moved₀ heads next u sort link₀ moved at =
     At (table t) sort u at × Tallying (table t) sort (goal (table t) sort u moved₀) (pending (table t) u at) moved
 
 abbrev μ-loop : tie.MeasureT-loop
-μ-loop t moved₀ firsts next u sort link₀ moved at = at
+μ-loop t moved₀ heads next u sort link₀ moved at = at
+
+wide-requires : tie.Need-wide-requires Inv-loop μ-loop
+wide-requires c κs = search needs
+
+-- The row of the sort has a place for u.
+in-row : (c : tie.After-wide Inv-loop μ-loop) → 64 * c .wide .result + c .before .before .args .u < 256
+in-row c =
+    let pre = c .before .before .pre .1 .1 in
+    omega (arith, c .wide .ensures, pre .0, pre .1)
 
 mul-count : tie.Need-mul-count Inv-loop μ-loop
-mul-count c = omega (arith, c .before .pre .1 .1 .0)
+mul-count c = omega (arith, in-row c)
+
+add-count : tie.Need-add-count Inv-loop μ-loop
+add-count c = omega (arith, in-row c)
+
+mul-count-2 : tie.Need-mul-count-2 Inv-loop μ-loop
+mul-count-2 c = omega (arith, in-row c)
 
 element-copy-out-count : tie.Need-element-copy-out-count Inv-loop μ-loop
-element-copy-out-count c = omega (arith, c .before .pre .1 .1 .0)
+element-copy-out-count c = omega (arith, in-row c)
 
 count-requires : tie.Need-count-requires Inv-loop μ-loop
 count-requires c κs = search needs
@@ -52,15 +67,17 @@ count-requires c κs = search needs
 loop-holds : tie.Need-loop-holds Inv-loop μ-loop
 unfolding total
 loop-holds c =
-    let start = c .before .before .before in
+    let row = c .before .before in
+    let start = row .before .before in
     let a = start .args in
     let tb : Table = table (a .t .now) in
-    let fits = start .pre .1 .1 .1 in
+    let known = start .pre .1 .1 in
     let first : c .count .result ≡ link (tb .records) (arc-of tb (a .sort) (a .u)) =
-    c .count .ensures ∙ start .pre .1 .0 .begins (a .u) (start .pre .1 .1 .0) in (
+    c .count .ensures ∙ ap (λ (s : ℕ). getD (a .heads .now) (64 * s + a .u) 0) (row .wide .ensures)
+    ∙ start .pre .1 .0 .begins (a .sort) (a .u) (known .1) (known .0) in (
       at-link tb (a .sort) (a .u) (tb .records) (c .count .result) (omega arith) first,
       retold tb (a .sort) (goal tb (a .sort) (a .u) (a .moved .now)) (λ k. eqb (a .u) (tb .two k)) (a .moved .now)
-          (record { size = fits .size; moved-is = λ p h. refl }) (pending tb (a .u) (c .count .result))
+          (record { size = known .2 .size; moved-is = λ p h. refl }) (pending tb (a .u) (c .count .result))
           (λ k h here. rw first (chain-begins tb (a .sort) (a .u) k h here)),
     )
 
@@ -90,31 +107,31 @@ own-at tb sort u at x n =
 
 -- So it is in the loop.
 here : (c : tie.In-loop Inv-loop μ-loop)
-    → let a = c .before .before .before .before .before .args in
+    → let a = c .before .before .before .before .before .before .args in
     Own (table (a .t .now)) (a .sort) (a .u) (c .before .loop .link)
 here c =
-    let a = c .before .before .before .before .before .args in
+    let a = c .before .before .before .before .before .before .args in
     own-at (table (a .t .now)) (a .sort) (a .u) (c .before .loop .link) (c .before .loop .inv .0) (c .loop-test .taken)
 
 add-arc-requires : tie.Need-add-arc-requires Inv-loop μ-loop
 add-arc-requires c κs =
-    let start = c .before .before .before .before .before .before in
+    let start = c .before .before .before .before .before .before .before in
     let a = start .args in
     let at = c .before .before .loop in
     let tb : Table = table (a .t .now) in
     let o = here (c .before) in
     room (a .t .now) (start .pre .0) (a .sort) (goal tb (a .sort) (a .u) (a .moved .now)) (pending tb (a .u) (at .link)) (at .moved) (at .inv .1)
-    (start .pre .1 .1 .1 .fits) (at .link - 1) (o .inside) (o .sort-is)
+    (start .pre .1 .1 .2 .fits) (at .link - 1) (o .inside) (o .sort-is)
     (rw (o .two-is, eq-eqb (a .u) (a .u) refl) (lt-ltb (at .link - 1) (at .link) (omega (arith, o .succ))))
 
 -- The record is one of at most 1,024.
 low : (c : tie.In-loop Inv-loop μ-loop) → c .before .loop .link - 1 < 1024
 low c =
-    let start = c .before .before .before .before .before in
+    let start = c .before .before .before .before .before .before in
     omega (arith, here c .inside, few-records (start .args .t .now) (start .pre .0))
 
-mul-count-2 : tie.Need-mul-count-2 Inv-loop μ-loop
-mul-count-2 c = omega (arith, low (c .before .before))
+mul-count-3 : tie.Need-mul-count-3 Inv-loop μ-loop
+mul-count-3 c = omega (arith, low (c .before .before))
 
 element-copy-out-count-2 : tie.Need-element-copy-out-count-2 Inv-loop μ-loop
 element-copy-out-count-2 c = low (c .before .before)
@@ -125,31 +142,30 @@ count-requires-2 c κs = search needs
 -- The chain goes on with the arc of u before it.
 next-link : (c : tie.After-count2 Inv-loop μ-loop)
     → let in-loop = c .before .before .before .before in
-    let a = in-loop .before .before .before .before .before .args in
+    let a = in-loop .before .before .before .before .before .before .args in
     c .count2 .result ≡ link (in-loop .before .loop .link - 1) (arc-of (table (a .t .now)) (a .sort) (a .u))
 next-link c =
     let in-loop = c .before .before .before .before in
-    let start = in-loop .before .before .before .before .before in
+    let start = in-loop .before .before .before .before .before .before in
     let a = start .args in
     let tb : Table = table (a .t .now) in
     let r : ℕ = in-loop .before .loop .link - 1 in
     let o = here in-loop in
     c .count2 .ensures
     ∙ start .pre .1 .0 .goes-on r (o .inside) (eqb-true _ _ (and-left (is tb 3 r) (eqb (tb .sort r) (a .sort)) (o .sort-is)))
-    (eqb-true _ _ (and-right (is tb 3 r) (eqb (tb .sort r) (a .sort)) (o .sort-is)))
-    ∙ ap (λ (u : ℕ). link r (arc-of tb (a .sort) u)) (o .two-is)
+    ∙ ap₂ (λ (sort u : ℕ). link r (arc-of tb sort u)) (eqb-true _ _ (and-right (is tb 3 r) (eqb (tb .sort r) (a .sort)) (o .sort-is))) (o .two-is)
 
 loop-less : tie.Need-loop-less Inv-loop μ-loop
 loop-less c =
     let in-loop = c .before .before .before .before in
-    let a = in-loop .before .before .before .before .before .args in
+    let a = in-loop .before .before .before .before .before .before .args in
     omega
     (arith, next-link c, link-le (in-loop .before .loop .link - 1) (arc-of (table (a .t .now)) (a .sort) (a .u)), here in-loop .succ)
 
 loop-again : tie.Need-loop-again Inv-loop μ-loop
 loop-again c =
     let in-loop = c .before .before .before .before in
-    let start = in-loop .before .before .before .before .before in
+    let start = in-loop .before .before .before .before .before .before in
     let a = start .args in
     let at = in-loop .before .loop in
     let tb : Table = table (a .t .now) in
@@ -165,7 +181,7 @@ loop-again c =
 
 returns : tie.Need-returns Inv-loop μ-loop
 returns c =
-    let a = c .before .before .before .before .before .args in
+    let a = c .before .before .before .before .before .before .args in
     let at = c .before .loop in
     let tb : Table = table (a .t .now) in
     record {
@@ -180,13 +196,16 @@ follow-spec =
     (tie.spec
     Inv-loop
     μ-loop
+    wide-requires
     mul-count
+    add-count
+    mul-count-2
     element-copy-out-count
     count-requires
     loop-holds
     sub-r
     add-arc-requires
-    mul-count-2
+    mul-count-3
     element-copy-out-count-2
     count-requires-2
     loop-less

@@ -19,7 +19,7 @@ use Rattle.net.proofs.Arcs.{arc-ranges}
 use Rattle.moves.specs.Tallied.{Fits, Followed}
 use Rattle.moves.proofs.Sums.{load}
 use Rattle.moves.proofs.Step.{with-others, apart, joined, all-joined}
-use Rattle.moves.proofs.Turns.{Tallying, begins, done, followed, fits, load-low}
+use Rattle.moves.proofs.Turns.{Tallying, begins, done, followed, fits}
 use Rattle.moves.proofs.Touched.{nowhere, places-of, all-places}
 use Rattle.moves.proofs.tally.Statement.{statement}
 use Rattle.moves.proofs.tally.Tie as tie
@@ -51,9 +51,6 @@ module _ (tb : Table) (chosen left rest u : ℕ) (low-u : u < 64) (has-u : bit l
   parts k = apart left rest u has-u less (tb .two k)
 
   module _ (sort : ℕ) (moved : List ℕ) (y : Tallying tb sort (load tb sort (of tb chosen)) (of tb left) moved) where
-    own-fits : ((p : ℕ) → p < 128 → load tb sort (of tb chosen) p < 4294967296) → Fits tb sort u moved
-    own-fits = fits tb sort (load tb sort (of tb chosen)) (of tb left) moved y (of tb rest) u (λ k h is. splits k) parts
-
     own-followed : (after : List ℕ) → Followed tb sort u moved after → Tallying tb sort (load tb sort (of tb chosen)) (of tb rest) after
     own-followed = followed tb sort (load tb sort (of tb chosen)) (of tb left) moved y (of tb rest) u (λ k h is. splits k) parts
 
@@ -71,11 +68,11 @@ module _ (tb : Table) (chosen left rest u : ℕ) (low-u : u < 64) (has-u : bit l
       }
 
 abbrev Inv-loop : tie.InvT-loop
-Inv-loop t taken₀ put₀ set takes puts next low high index at₀ functions₀ left₀ taken put at functions left =
+Inv-loop t taken₀ put₀ set heads next low high index at₀ functions₀ left₀ taken put at functions left =
     (left < 2 ^ 64) × Part (table t) set low high index left taken put at functions
 
 abbrev μ-loop : tie.MeasureT-loop
-μ-loop t taken₀ put₀ set takes puts next low high index at₀ functions₀ left₀ taken put at functions left = left
+μ-loop t taken₀ put₀ set heads next low high index at₀ functions₀ left₀ taken put at functions left = left
 
 loop-holds : tie.Need-loop-holds Inv-loop μ-loop
 loop-holds c =
@@ -139,15 +136,14 @@ own-room : (d : tie.After-rest Inv-loop μ-loop) (sort : ℕ) (moved : List ℕ)
     → let a = d .before .before .before .before .before .args in
     Tallying (table (a .t .now)) sort (load (table (a .t .now)) sort (of (table (a .t .now)) (a .set)))
     (of (table (a .t .now)) (d .before .before .before .loop .left)) moved
-    → (d .before .lowest .result < 64) × Fits (table (a .t .now)) sort (d .before .lowest .result) moved
-own-room d sort moved y =
+    → (own : ℕ) → own < 4 → (d .before .lowest .result < 64) × (own < 4) × Fits (table (a .t .now)) own (d .before .lowest .result) moved
+own-room d sort moved y own known =
     let start = d .before .before .before .before .before in
     let a = start .args in
-    let tb : Table = table (a .t .now) in
-    let m = member (d .before) in (
-      m .0,
-      own-fits tb (a .set) (d .before .before .before .loop .left) (d .rest .result) (d .before .lowest .result) (m .0) (m .1) (others d) sort moved y
-          (λ p h. load-low (a .t .now) (start .pre .0) sort (of tb (a .set)) p),
+    let tb : Table = table (a .t .now) in (
+      member (d .before) .0,
+      known,
+      fits (a .t .now) (start .pre .0) sort (of tb (a .set)) (of tb (d .before .before .before .loop .left)) moved y own (d .before .lowest .result),
     )
 
 follow-requires : tie.Need-follow-requires Inv-loop μ-loop
@@ -155,14 +151,14 @@ follow-requires c κs =
     let d = c .before .before .before .before .before .before in
     let pre = d .before .before .before .before .before .pre in
     let at = d .before .before .before .loop in
-    (pre .0, (pre .1 .0 .0, own-room d 0 (at .taken) (at .inv .1 .taking)))
+    (pre .0, (pre .1 .0, own-room d 0 (at .taken) (at .inv .1 .taking) _ (omega arith)))
 
 follow-requires-2 : tie.Need-follow-requires-2 Inv-loop μ-loop
 follow-requires-2 c κs =
     let d = c .before .before .before .before .before .before .before .before in
     let pre = d .before .before .before .before .before .pre in
     let at = d .before .before .before .loop in
-    (pre .0, (pre .1 .0 .1, own-room d 3 (at .put) (at .inv .1 .putting)))
+    (pre .0, (pre .1 .0, own-room d 3 (at .put) (at .inv .1 .putting) _ (omega arith)))
 
 loop-less : tie.Need-loop-less Inv-loop μ-loop
 loop-less c =

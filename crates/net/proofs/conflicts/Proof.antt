@@ -1,33 +1,75 @@
--- `conflicts` meets its contract: after p places row i has whoever takes with i from one of these, and a place shares its row among its members;
--- from place n on nobody takes.
-use mathlib.Core.Bool.{Bool, false, _&&_, _||_, or-false}
+-- `conflicts` meets its contract: after p places row i has whoever takes with i from one of these, i itself perhaps left out; a place shares its row
+-- among its members where there are two; from place n on nobody takes.
+use mathlib.Core.Bool.{Bool, true, false, not, _&&_}
 use mathlib.Core.List.{List}
 use mathlib.Core.Logic.{⊎-elim}
-use mathlib.Core.Path.{_≡_, sym, ap, _∙_}
+use mathlib.Core.Path.{_≡_, refl, sym, ap, _∙_}
 use Prim.Native.Nat.{ℕ, _+_, _-_, _≤_, _<_}
 use native.Mathlib.Numerals.{add-one}
 use native.Mathlib.Omega.{arith}
+use lib.Dec.{eqb}
 use lib.ListN.{length, getD, length-replicate, getD-replicate}
 use borrow.Author.Needs.{needs}
-use Rattle.meaning.specs.Below.{some}
+use borrow.Author.Tests.{eqb-true}
+use Rattle.meaning.specs.Below.{some, first}
 use Rattle.meaning.specs.Bytes.{bit}
+use Rattle.meaning.proofs.Bool.{not-both, and-left, and-right, or-true-left, or-true-right, or-cases}
 use Rattle.sets.proofs.Bits.{bit-zero}
 use Rattle.table.proofs.Firsts.{some-short}
-use Rattle.net.specs.Rows.{Blank-from}
+use Rattle.sets.specs.Given.{Given}
+use Rattle.net.specs.Rows.{Blank-from, both-in}
 use Rattle.net.proofs.conflicts.Statement.{statement}
 use Rattle.net.proofs.conflicts.Tie as tie
 
--- Both i and j take from place p.
-abbrev both : List ℕ → ℕ → ℕ → ℕ → Bool
-both takers i j p = bit (getD takers p 0) i && bit (getD takers p 0) j
+-- From a place where nobody is left besides the first, no two take.
+one-alone : (set others : ℕ) → others ≡ 0 → ((j : ℕ) → bit others j ≡ (bit set j && not (eqb (first 64 (bit set)) j)))
+    → (i j : ℕ) → bit set i ≡ true → bit set j ≡ true → i ≡ j
+one-alone set others none rest i j hi hj = sym (is-first i hi) ∙ is-first j hj
+  where
+    is-first : (k : ℕ) → bit set k ≡ true → first 64 (bit set) ≡ k
+    is-first k h = go (eqb (first 64 (bit set)) k) refl
+      where
+        go : (b : Bool) → eqb (first 64 (bit set)) k ≡ b → first 64 (bit set) ≡ k
+        go true e = eqb-true _ _ e
+        go false e = not-both (rest k ∙ rw (h, e)) (rw none (bit-zero k))
 
--- Nobody takes from place p.
-none : (takers : List ℕ) (i j p : ℕ) → getD takers p 0 ≡ 0 → both takers i j p ≡ false
-none takers i j p e = rw (e, bit-zero i)
+-- What the rows have after p places.
+record Part (takers rows : List ℕ) (p : ℕ) : Type 0 where
+  size : length rows ≡ 64
+  sound : (i j : ℕ) → i < 64 → bit (getD rows i 0) j ≡ true → some p (both-in takers i j) ≡ true
+  whole : (i j : ℕ) → i < 64 → j < 64 → ¬ (i ≡ j) → some p (both-in takers i j) ≡ true → bit (getD rows i 0) j ≡ true
+
+module _ (takers rows : List ℕ) (p : ℕ) (g : Part takers rows p) where
+  -- The members of place p share its row.
+  shares : (after : List ℕ) → Given rows (getD takers p 0) (getD takers p 0) after → Part takers after (p + 1)
+  unfolding some
+  shares after s =
+      record {
+        size = s .size;
+        sound = λ i j h e.
+            rw (add-one p)
+            (⊎-elim (λ a. or-true-left _ (g .sound i j h a)) (λ a. or-true-right (some p (both-in takers i j)) a) (or-cases _ _ (sym (s .holds i j h) ∙ e)));
+        whole = λ i j h l n e.
+            s .holds i j h
+            ∙ ⊎-elim (λ a. or-true-left _ (g .whole i j h l n a)) (λ a. or-true-right (bit (getD rows i 0) j) a)
+            (or-cases (some p (both-in takers i j)) (both-in takers i j p) (rw (add-one p) at e));
+      }
+
+  -- No two of them are there.
+  passes-over : ((i j : ℕ) → bit (getD takers p 0) i ≡ true → bit (getD takers p 0) j ≡ true → i ≡ j) → Part takers rows (p + 1)
+  unfolding some
+  passes-over alone =
+      record {
+        size = g .size;
+        sound = λ i j h e. rw (add-one p) (or-true-left _ (g .sound i j h e));
+        whole = λ i j h l n e.
+            ⊎-elim (g .whole i j h l n)
+            (λ a. absurd (n (alone i j (and-left (bit (getD takers p 0) i) _ a) (and-right (bit (getD takers p 0) i) _ a))))
+            (or-cases (some p (both-in takers i j)) (both-in takers i j p) (rw (add-one p) at e));
+      }
 
 abbrev Inv-loop : tie.InvT-loop
-Inv-loop takers rows₀ n p₀ rows p =
-    (p ≤ n) × Blank-from 128 n takers × (length rows ≡ 64) × ((i j : ℕ) → i < 64 → bit (getD rows i 0) j ≡ some p (both takers i j))
+Inv-loop takers rows₀ n p₀ rows p = (p ≤ n) × Blank-from 128 n takers × Part takers rows p
 
 abbrev μ-loop : tie.MeasureT-loop
 μ-loop takers rows₀ n p₀ rows p = n - p
@@ -35,8 +77,16 @@ abbrev μ-loop : tie.MeasureT-loop
 loop-holds : tie.Need-loop-holds Inv-loop μ-loop
 unfolding some
 loop-holds c =
-    let empty = c .pre .1 in
-    (omega arith, c .pre .0, rw empty (length-replicate {A = ℕ} 64 0), λ i j h. rw empty (ap (λ (x : ℕ). bit x j) (getD-replicate 64 i 0 0 h) ∙ bit-zero j))
+    let empty = c .pre .1 in (
+      omega arith,
+      c .pre .0,
+      rw empty
+          (record {
+            size = length-replicate {A = ℕ} 64 0;
+            sound = λ i j h e. not-both e (ap (λ (x : ℕ). bit x j) (getD-replicate 64 i 0 0 h) ∙ bit-zero j);
+            whole = λ i j h l n e. not-both e refl;
+          }),
+    )
 
 mul-set : tie.Need-mul-set Inv-loop μ-loop
 mul-set c = search needs
@@ -44,8 +94,11 @@ mul-set c = search needs
 element-copy-out-set : tie.Need-element-copy-out-set Inv-loop μ-loop
 element-copy-out-set c = search needs
 
-share-requires : tie.Need-share-requires Inv-loop μ-loop
-share-requires c κs = c .before .before .before .before .loop .inv .2
+rest-requires : tie.Need-rest-requires Inv-loop μ-loop
+rest-requires c κs = search needs
+
+give-requires : tie.Need-give-requires Inv-loop μ-loop
+give-requires c κs = c .before .before .before .before .before .loop .inv .2 .size
 
 add-p : tie.Need-add-p Inv-loop μ-loop
 add-p c = search needs
@@ -54,34 +107,23 @@ loop-less : tie.Need-loop-less Inv-loop μ-loop
 loop-less c = search needs
 
 loop-again : tie.Need-loop-again Inv-loop μ-loop
-unfolding some
 loop-again c =
-    let at = c .before .before .before .loop in
-    let takers : List ℕ = c .before .before .before .before .args .takers .now in
-    let grows : (i j : ℕ) → i < 64 → (bit (getD (at .rows) i 0) j || both takers i j (at .p)) ≡ some (at .p + 1) (both takers i j) =
-    λ i j h. rw (at .inv .3 i j h, add-one (at .p)) in
-    ⊎-elim
-    (λ w. rw (w .3) (omega arith, at .inv .1, w .2 .ensures .size, λ i j h. w .2 .ensures .holds i j h ∙ grows i j h))
-    (λ w.
-    rw (w .1) (
-      omega arith,
-      at .inv .1,
-      at .inv .2,
-      λ i j h. sym (or-false _) ∙ ap (λ (b : Bool). bit (getD (at .rows) i 0) j || b) (sym (none takers i j (at .p) (w .0 .left))) ∙ grows i j h,
-    ))
+    let at = c .before .before .before .before .loop in
+    let takers : List ℕ = c .before .before .before .before .before .args .takers .now in
+    ⊎-elim (λ w. rw (w .3) (omega arith, at .inv .1, shares takers (at .rows) (at .p) (at .inv .2) _ (w .2 .ensures)))
+    (λ w. rw (w .1) (omega arith, at .inv .1, passes-over takers (at .rows) (at .p) (at .inv .2) (one-alone _ _ (w .0 .left) (c .before .rest .ensures))))
     (c .if1 .came)
 
 returns : tie.Need-returns Inv-loop μ-loop
 returns c =
     let at = c .before .loop in
     let takers : List ℕ = c .before .before .args .takers .now in
+    let all : (i j : ℕ) → i < 64 → some (at .p) (both-in takers i j) ≡ some 128 (both-in takers i j) =
+    λ i j h. some-short (at .p) 128 (both-in takers i j) (omega (arith, at .inv .1 .most)) (λ p l m. rw (at .inv .1 .none p i (omega arith) m h)) in
     record {
-      size = at .inv .2;
-      holds =
-          λ i j h.
-          at .inv .3 i j h
-          ∙ some-short (at .p) 128 (both takers i j) (omega (arith, at .inv .1 .most))
-          (λ p l m. rw (at .inv .1 .none p i (omega arith) m h));
+      size = at .inv .2 .size;
+      sound = λ i j h e. sym (all i j h) ∙ at .inv .2 .sound i j h e;
+      whole = λ i j h l n e. at .inv .2 .whole i j h l n (all i j h ∙ e);
     }
 
 pub conflicts-spec : {M : Type 1} → statement M
@@ -93,7 +135,8 @@ conflicts-spec =
     loop-holds
     mul-set
     element-copy-out-set
-    share-requires
+    rest-requires
+    give-requires
     add-p
     loop-less
     loop-again

@@ -1,5 +1,5 @@
--- `close` gives the closed rows: the first loop copies the written pairs, and each turn of the second makes one more round; where no row has k, and
--- from n on where the rows are empty, the rows are the round over k already.
+-- `close` gives the closed rows and turns them: the first loop copies the written pairs, each turn of the second makes one more round in both, and where
+-- nobody stands above k or below it, and from n on where the rows are empty, the rows are the round over k already.
 use mathlib.Core.Logic.{⊎-elim}
 use mathlib.Core.Path.{_≡_, sym, _∙_}
 use Prim.Native.Nat.{ℕ, _+_, _≤_, _<_, _-_}
@@ -9,35 +9,36 @@ use lib.ListN.{getD, length, length-set, length-replicate, getD-replicate}
 use lib.Seq.{getD-set-same, getD-set-other}
 use borrow.Author.Count.{below-more}
 use borrow.Author.Needs.{needs}
-use Rattle.priority.specs.Closed.{Pairs-below, Bare}
-use Rattle.priority.proofs.Round.{lacking, Within, within-round, outside, within-more, within-all}
+use Rattle.priority.specs.Closed.{Pairs-below, Bare, Turned}
+use Rattle.priority.proofs.Round.{emptied, lacking, rounds, still-bare, turned-round}
+use Rattle.priority.proofs.Walk.{no-row, one-more}
 use Rattle.priority.proofs.Warshall.{Rounds, copied, rounded, closing}
 use Rattle.priority.proofs.close.Statement.{statement}
 use Rattle.priority.proofs.close.Tie as tie
 
 abbrev Inv-loop : tie.InvT-loop
-Inv-loop index rows₀ n lower₀ i₀ rows lower i =
-    (i ≤ n) × Pairs-below n index × (length rows ≡ 64) × ((u : ℕ) → u < i → getD rows u 0 ≡ getD index (512 + u) 0)
-    × ((u : ℕ) → i ≤ u → u < 64 → getD rows u 0 ≡ 0) × Within rows lower i
+Inv-loop index below₀ above₀ n i₀ below above i =
+    (i ≤ n) × Pairs-below n index × (length below ≡ 64) × ((u : ℕ) → u < i → getD below u 0 ≡ getD index (512 + u) 0)
+    × ((u : ℕ) → i ≤ u → u < 64 → getD below u 0 ≡ 0) × Turned below above
 
 abbrev μ-loop : tie.MeasureT-loop
-μ-loop index rows₀ n lower₀ i₀ rows lower i = n - i
+μ-loop index below₀ above₀ n i₀ below above i = n - i
 
 abbrev Inv-loop2 : tie.InvT-loop2
-Inv-loop2 index rows₀ n lower i k₀ rows k = (k ≤ n) × Bare n rows × (length rows ≡ 64) × Rounds index k rows × Within rows lower 64
+Inv-loop2 index below₀ above₀ n i k₀ below above k = (k ≤ n) × Bare n below × (length below ≡ 64) × Rounds index k below × Turned below above
 
 abbrev μ-loop2 : tie.MeasureT-loop2
-μ-loop2 index rows₀ n lower i k₀ rows k = n - k
+μ-loop2 index below₀ above₀ n i k₀ below above k = n - k
 
 loop-holds : tie.Need-loop-holds Inv-loop μ-loop Inv-loop2 μ-loop2
 loop-holds c =
     let empty = c .pre .1 in (
       omega arith,
       c .pre .0,
-      rw empty (length-replicate {A = ℕ} 64 0),
+      rw (empty .0) (length-replicate {A = ℕ} 64 0),
       λ u h. absurd (not-suc-le-zero h),
-      λ u h l. rw empty (getD-replicate {A = ℕ} 64 u 0 0 l),
-      λ u h. absurd (not-suc-le-zero h),
+      λ u h l. rw (empty .0) (getD-replicate {A = ℕ} 64 u 0 0 l),
+      rw (empty .0, empty .1) no-row,
     )
 
 add-row : tie.Need-add-row Inv-loop μ-loop Inv-loop2 μ-loop2
@@ -49,14 +50,17 @@ mul-row c = search needs
 element-copy-out-row : tie.Need-element-copy-out-row Inv-loop μ-loop Inv-loop2 μ-loop2
 element-copy-out-row c = search needs
 
-mul-rows : tie.Need-mul-rows Inv-loop μ-loop Inv-loop2 μ-loop2
-mul-rows c = search needs
+mul-below : tie.Need-mul-below Inv-loop μ-loop Inv-loop2 μ-loop2
+mul-below c = search needs
 
-element-write-rows : tie.Need-element-write-rows Inv-loop μ-loop Inv-loop2 μ-loop2
-element-write-rows c = search needs
+element-write-below : tie.Need-element-write-below Inv-loop μ-loop Inv-loop2 μ-loop2
+element-write-below c = search needs
 
-union-requires : tie.Need-union-requires Inv-loop μ-loop Inv-loop2 μ-loop2
-union-requires c κs = search needs
+single-requires : tie.Need-single-requires Inv-loop μ-loop Inv-loop2 μ-loop2
+single-requires c κs = search needs
+
+give-requires : tie.Need-give-requires Inv-loop μ-loop Inv-loop2 μ-loop2
+give-requires c κs = search needs
 
 add-i : tie.Need-add-i Inv-loop μ-loop Inv-loop2 μ-loop2
 add-i c = search needs
@@ -68,33 +72,48 @@ loop-again : tie.Need-loop-again Inv-loop μ-loop Inv-loop2 μ-loop2
 loop-again c =
     let at = c .before .before .before .loop in
     let index = c .before .before .before .before .args .index .now in
-    let row : ℕ = getD index (512 + at .i) 0 in (
+    let row : ℕ = getD index (512 + at .i) 0 in
+    let low : at .i < 64 = omega (arith, at .inv .1 .most) in
+    let empty : getD (at .below) (at .i) 0 ≡ 0 = at .inv .4 (at .i) (omega arith) low in
+    ⊎-elim
+    (λ w.
+    rw (w .4, w .5) (
       omega arith,
       at .inv .1,
       simp length-set (omega arith),
-      below-more _ _ (λ u h. getD-set-other (at .rows) (at .i) u row 0 (λ e. omega arith) ∙ at .inv .3 u h) (getD-set-same (at .rows) (at .i) row 0 (omega arith)),
-      λ u h l. getD-set-other (at .rows) (at .i) u row 0 (λ e. omega arith) ∙ at .inv .4 u (omega arith) l,
-      within-more (at .rows) (at .i) (at .lower) row (c .union .result) (omega arith) (at .inv .5) (c .union .ensures),
-    )
+      below-more _ _ (λ u h. getD-set-other (at .below) (at .i) u row 0 (λ e. omega arith) ∙ at .inv .3 u h)
+          (getD-set-same (at .below) (at .i) row 0 (omega arith)),
+      λ u h l. getD-set-other (at .below) (at .i) u row 0 (λ e. omega arith) ∙ at .inv .4 u (omega arith) l,
+      one-more (at .below) (at .above) _ (at .i) row _ (at .inv .2) low empty (at .inv .5) (w .2 .ensures) (w .3 .ensures),
+    ))
+    (λ w.
+    rw (w .1, w .2)
+    (omega arith, at .inv .1, at .inv .2, below-more _ _ (at .inv .3) (empty ∙ sym (w .0 .left)), λ u h l. at .inv .4 u (omega arith) l, at .inv .5))
+    (c .if1 .came)
 
 loop2-holds : tie.Need-loop2-holds Inv-loop μ-loop Inv-loop2 μ-loop2
 loop2-holds c =
     let at = c .before .loop in
-    let bare : Bare _ (at .rows) = record { most = at .inv .1 .most; none = λ u h l. at .inv .4 u (omega arith) l } in (
-      omega arith,
-      bare,
-      at .inv .2,
-      copied (at .inv .1) bare (λ u h. at .inv .3 u (omega arith)),
-      within-all (at .lower) bare (λ u h. at .inv .5 u (omega arith)),
-    )
+    let bare : Bare _ (at .below) = record { most = at .inv .1 .most; none = λ u h l. at .inv .4 u (omega arith) l } in
+    (omega arith, bare, at .inv .2, copied (at .inv .1) bare (λ u h. at .inv .3 u (omega arith)), at .inv .5)
 
-has-requires : tie.Need-has-requires Inv-loop μ-loop Inv-loop2 μ-loop2
-has-requires c κs = search needs
+mul-over : tie.Need-mul-over Inv-loop μ-loop Inv-loop2 μ-loop2
+mul-over c = search needs
 
-through-requires : tie.Need-through-requires Inv-loop μ-loop Inv-loop2 μ-loop2
-through-requires c κs =
-    let at = c .before .before .before .before .loop2 in
-    (omega (arith, at .inv .1 .most), (at .inv .2, at .inv .1))
+element-copy-out-over : tie.Need-element-copy-out-over Inv-loop μ-loop Inv-loop2 μ-loop2
+element-copy-out-over c = search needs
+
+mul-under : tie.Need-mul-under Inv-loop μ-loop Inv-loop2 μ-loop2
+mul-under c = search needs
+
+element-copy-out-under : tie.Need-element-copy-out-under Inv-loop μ-loop Inv-loop2 μ-loop2
+element-copy-out-under c = search needs
+
+give-requires-2 : tie.Need-give-requires-2 Inv-loop μ-loop Inv-loop2 μ-loop2
+give-requires-2 c κs = search needs
+
+give-requires-3 : tie.Need-give-requires-3 Inv-loop μ-loop Inv-loop2 μ-loop2
+give-requires-3 c κs = search needs
 
 add-k : tie.Need-add-k Inv-loop μ-loop Inv-loop2 μ-loop2
 add-k c = search needs
@@ -104,24 +123,32 @@ loop2-less c = search needs
 
 loop2-again : tie.Need-loop2-again Inv-loop μ-loop Inv-loop2 μ-loop2
 loop2-again c =
-    let at = c .before .before .before .loop2 in
-    let index = c .before .before .before .before .before .before .args .index .now in
-    let lower : ℕ = c .before .before .before .before .before .loop .lower in
+    let at = c .before .before .before .before .loop2 in
+    let index = c .before .before .before .before .before .before .before .args .index .now in
     let low : at .k < 64 = omega (arith, at .inv .1 .most) in
+    let turned = at .inv .4 in
     ⊎-elim
     (λ w.
-    let round = w .2 .ensures .0 in
-    rw (w .3) (omega arith, w .2 .ensures .1, round .size, rounded index low (at .inv .3) round, within-round (at .rows) _ (at .k) lower low round (at .inv .4)))
+    let g = w .3 .ensures in
+    rw (w .6, w .7) (
+      omega arith,
+      still-bare (at .below) (at .k) (at .above) low turned _ g (at .inv .1),
+      g .size,
+      rounded index low (at .inv .3) (rounds (at .below) (at .k) (at .above) low turned _ g),
+      turned-round (at .below) (at .k) (at .above) low turned _ g _ (w .5 .ensures),
+    ))
+    (⊎-elim (λ w. rw (w .2, w .3)
+    (omega arith, at .inv .1, at .inv .2, rounded index low (at .inv .3) (emptied (at .below) (at .k) (at .inv .2) (w .1 .left)), turned))
     (λ w.
-    let round = lacking (at .rows) (at .k) (at .inv .2) (outside (at .rows) (at .k) lower low (at .inv .4) (sym (c .before .has .ensures) ∙ w .0 .left)) in
-    rw (w .1) (omega arith, at .inv .1, at .inv .2, rounded index low (at .inv .3) round, at .inv .4))
-    (c .if1 .came)
+    let nobody = lacking (at .below) (at .k) (at .above) low turned (at .inv .2) (w .0 .left) in
+    rw (w .1, w .2) (omega arith, at .inv .1, at .inv .2, rounded index low (at .inv .3) nobody, turned)))
+    (c .if2 .came)
 
 returns : tie.Need-returns Inv-loop μ-loop Inv-loop2 μ-loop2
 returns c =
     let at = c .before .loop2 in
     let all : at .k ≡ c .before .before .before .before .args .n = omega arith in
-    (closing (at .inv .2) (at .inv .1) (rw all at (at .inv .3)), at .inv .1)
+    ((closing (at .inv .2) (at .inv .1) (rw all at (at .inv .3)), at .inv .1), at .inv .4)
 
 pub close-spec : {M : Type 1} → statement M
 close-spec =
@@ -135,15 +162,20 @@ close-spec =
     add-row
     mul-row
     element-copy-out-row
-    mul-rows
-    element-write-rows
-    union-requires
+    mul-below
+    element-write-below
+    single-requires
+    give-requires
     add-i
     loop-less
     loop-again
     loop2-holds
-    has-requires
-    through-requires
+    mul-over
+    element-copy-out-over
+    mul-under
+    element-copy-out-under
+    give-requires-2
+    give-requires-3
     add-k
     loop2-less
     loop2-again

@@ -1,11 +1,11 @@
 -- The walk keeps that each place passed has its new tokens, nothing taken or put, and rows that span them; and whom the places passed starve.
-use mathlib.Core.Bool.{Bool, true, false, cond, _&&_, _||_}
+use mathlib.Core.Bool.{Bool, not, _&&_, _||_}
 use mathlib.Core.List.{List}
 use mathlib.Core.Path.{_≡_, refl, sym, ap, ap₂, _∙_}
 use Prim.Native.Nat.{ℕ, _+_, _-_, _≤_, _<_}
 use native.Mathlib.Omega.{arith}
 use lib.Dec.{ltb}
-use lib.ListN.{length, getD, set, length-set}
+use lib.ListN.{length, getD, length-set}
 use borrow.Author.Needs.{needs}
 use Rattle.meaning.specs.Below.{some}
 use Rattle.meaning.specs.Bytes.{bit}
@@ -13,30 +13,29 @@ use Rattle.meaning.proofs.Bool.{and-left}
 use Rattle.meaning.proofs.Below.{some-same}
 use Rattle.sets.proofs.Bits.{bit-zero}
 use Rattle.sets.proofs.Walk.{Written, none-written, all-written, unwritten, none-joined, all-joined, up, one-written, joined}
-use Rattle.places.specs.Set.{has}
 use Rattle.places.proofs.Going.{whole, whole-is, Going, starts, goes, goes-on}
 use Rattle.net.specs.Rows.{cell}
-use Rattle.enabled.specs.Held.{Levels}
+use Rattle.enabled.specs.Held.{plain, Levels}
 use Rattle.enabled.proofs.Held.{plain-held, moved-on}
 use Rattle.settle.specs.Settle.{new-at}
 use Rattle.settle.proofs.settle.Statement.{statement}
 use Rattle.settle.proofs.settle.Tie as tie
 
 -- Place q starves transition t.
-abbrev starving : List ℕ → List ℕ → List ℕ → List (List ℕ) → ℕ → ℕ → Bool
-starving m taken plain w t q = ltb 0 (getD taken q 0) && (bit (getD plain q 0) t && ltb (getD m q 0 - getD taken q 0) (cell w q t))
+abbrev starving : List ℕ → List ℕ → List ℕ → List ℕ → List (List ℕ) → ℕ → ℕ → Bool
+starving m taken index curbs w t q = ltb 0 (getD taken q 0) && (plain index curbs q t && ltb (getD m q 0 - getD taken q 0) (cell w q t))
 
 abbrev Inv-loop : tie.InvT-loop
-Inv-loop m₀ held₀ shown₀ from₀ upto₀ taken₀ put₀ index plain curbs w s walk₀ all₀ m held shown from upto taken put walk all =
+Inv-loop m₀ held₀ shown₀ from₀ upto₀ taken₀ put₀ index curbs w s walk₀ all₀ m held shown from upto taken put walk all =
     (length m ≡ 128) × (length taken ≡ 128) × (length put ≡ 128) × Going walk₀ walk
     × Written 128 (whole walk₀) (new-at m₀ taken₀ put₀) (λ q. getD m₀ q 0) m (walk .first)
     × Written 128 (whole walk₀) (λ q. 0) (λ q. getD taken₀ q 0) taken (walk .first)
     × Written 128 (whole walk₀) (λ q. 0) (λ q. getD put₀ q 0) put (walk .first)
     × Levels index w s m held shown from upto
-    × ((t : ℕ) → t < 64 → bit all t ≡ some 128 (λ q. (ltb q (walk .first) && whole walk₀ q) && starving m₀ taken₀ plain w t q))
+    × ((t : ℕ) → t < 64 → bit all t ≡ some 128 (λ q. (ltb q (walk .first) && whole walk₀ q) && starving m₀ taken₀ index curbs w t q))
 
 abbrev μ-loop : tie.MeasureT-loop
-μ-loop m₀ held₀ shown₀ from₀ upto₀ taken₀ put₀ index plain curbs w s walk₀ all₀ m held shown from upto taken put walk all =
+μ-loop m₀ held₀ shown₀ from₀ upto₀ taken₀ put₀ index curbs w s walk₀ all₀ m held shown from upto taken put walk all =
     128 - walk .first
 
 step-requires : tie.Need-step-requires Inv-loop μ-loop
@@ -106,9 +105,9 @@ starved-requires c κs =
     let rest : c .before .before .before .rest-of .result ≤ getD (loop .m) (loop .walk .first) 0 = omega (arith, c .before .before .before .rest-of .ensures) in (
       (place, omega (arith, rest, few in-loop .0)),
       (
-        λ t l e. pre .1 .1 .1 .0 .least _ t place l (and-left (bit (getD (start .args .index .now) (192 + loop .walk .first) 0) t) _ (sym (pre .1 .1 .0 .plain-is _ t place) ∙ e)),
+        λ t l e. pre .1 .1 .1 .0 .least _ t place l (and-left (bit (getD (start .args .index .now) (192 + loop .walk .first) 0) t) _ e),
         λ low t l.
-            ap (λ (k : ℕ). bit k t && bit (getD (start .args .plain .now) (loop .walk .first) 0) t)
+            ap (λ (k : ℕ). bit k t && not (bit (getD (start .args .curbs .now) (loop .walk .first) 0) t))
             (loop .inv .7 .spans _ place .holds _ low (omega (arith, rest, loop .inv .7 .inside _ place .1)))
             ∙ plain-held (pre .1 .1 .0) _ place (start .args .w .now) _ t l,
       ),
@@ -160,10 +159,12 @@ loop-again c =
     let a = in-loop .before .before .before .before .args in
     let p = loop .walk .first in
     let rest : c .before .before .before .before .before .before .before .before .before .before .rest-of .result ≡ getD (a .m .now) p 0 - getD (a .taken .now) p 0 = c .before .before .before .before .before .before .before .before .before .before .rest-of .ensures ∙ ap₂ _-_ (had in-loop) (lost in-loop) in
-    let starves : (t : ℕ) → t < 64 → bit (c .before .before .before .before .before .before .starved .result) t ≡ (bit (loop .all) t || starving (a .m .now) (a .taken .now) (a .plain .now) (a .w .now) t p) =
+    let starve : ℕ → ℕ → Bool = starving (a .m .now) (a .taken .now) (a .index .now) (a .curbs .now) (a .w .now) in
+    let said = c .before .before .before .before .before .before .starved in
+    let starves : (t : ℕ) → t < 64 → bit (said .result) t ≡ (bit (loop .all) t || starve t p) =
     λ t l.
-    c .before .before .before .before .before .before .starved .ensures t l
-    ∙ ap₂ (λ (k n : ℕ). bit (loop .all) t || (ltb 0 n && (bit (getD (a .plain .now) p 0) t && ltb k (cell (a .w .now) p t)))) rest (lost in-loop) in (
+    said .ensures t l
+    ∙ ap₂ (λ (k n : ℕ). bit (loop .all) t || (ltb 0 n && (plain (a .index .now) (a .curbs .now) p t && ltb k (cell (a .w .now) p t)))) rest (lost in-loop) in (
       length-set (loop .m) p _ ∙ loop .inv .0,
       length-set (loop .taken) p _ ∙ loop .inv .1,
       length-set (loop .put) p _ ∙ loop .inv .2,
@@ -174,7 +175,7 @@ loop-again c =
       moved-on (loop .inv .7) (c .before .shift .ensures) (omega (arith, loop .inv .0)),
       λ t l.
           starves t l ∙ rw (loop .inv .8 t l)
-          (sym (joined 128 _ _ _ (going .walked) test _ _ (going .rest) (next .lowest) (starving (a .m .now) (a .taken .now) (a .plain .now) (a .w .now) t))),
+          (sym (joined 128 _ _ _ (going .walked) test _ _ (going .rest) (next .lowest) (starve t))),
     )
 
 returns : tie.Need-returns Inv-loop μ-loop
@@ -182,11 +183,12 @@ returns c =
     let loop = c .before .before .loop in
     let over = c .if1 .left in
     let same = whole-is (c .before .before .before .step .ensures) in
-    let a = c .before .before .before .before .args in (
+    let a = c .before .before .before .before .args in
+    let starve : ℕ → ℕ → Bool = starving (a .m .now) (a .taken .now) (a .index .now) (a .curbs .now) (a .w .now) in (
       record {
         holds = λ t l.
             loop .inv .8 t l ∙ all-joined 128 _ _ _ over
-            ∙ some-same 128 _ _ (λ q h. ap (λ (b : Bool). b && starving (a .m .now) (a .taken .now) (a .plain .now) (a .w .now) t q) (same q h));
+            ∙ some-same 128 _ _ (λ q h. ap (λ (b : Bool). b && starve t q) (same q h));
       },
       (
         record {

@@ -1,15 +1,12 @@
 -- Where nothing is taken nobody is starved; on the level whom the place holds back already is; with nothing left everybody is.
 use mathlib.Core.Bool.{Bool, true, false, _&&_, _||_, or-false}
 use mathlib.Core.Path.{_≡_, refl, sym, ap, _∙_}
-use Prim.Native.Nat.{ℕ, _≤_, _<_, _^_}
+use Prim.Native.Nat.{ℕ, _≤_}
 use native.Mathlib.Omega.{arith}
 use lib.Dec.{ltb}
-use lib.ListN.{getD}
 use borrow.Author.Needs.{needs}
 use borrow.Author.Tests.{lt-ltb, le-ltb}
 use Rattle.meaning.specs.Bytes.{bit}
-use Rattle.sets.proofs.Bits.{bit-and}
-use Rattle.net.specs.Rows.{cell}
 use Rattle.settle.proofs.starved.Statement.{statement}
 use Rattle.settle.proofs.starved.Tie as tie
 
@@ -20,11 +17,11 @@ returns c t l = sym (rw (c .if1 .taken, le-ltb 0 0 (omega arith)) (or-false _))
 some-taken : (c : tie.Else1) → ltb 0 (c .before .args .taken) ≡ true
 some-taken c = lt-ltb 0 (c .before .args .taken) (omega (arith, c .if1 .left))
 
-mul-plain-here : tie.Need-mul-plain-here
-mul-plain-here c = search needs
+mul-curbs-here : tie.Need-mul-curbs-here
+mul-curbs-here c = search needs
 
-element-copy-out-plain-here : tie.Need-element-copy-out-plain-here
-element-copy-out-plain-here c = search needs
+element-copy-out-curbs-here : tie.Need-element-copy-out-curbs-here
+element-copy-out-curbs-here c = search needs
 
 mul-if2 : tie.Need-mul-if2
 mul-if2 c = search needs
@@ -32,36 +29,52 @@ mul-if2 c = search needs
 element-copy-out-if2 : tie.Need-element-copy-out-if2
 element-copy-out-if2 c = search needs
 
-mul-union : tie.Need-mul-union
-mul-union c = search needs
+mul-less : tie.Need-mul-less
+mul-less c = search needs
 
-element-copy-out-union : tie.Need-element-copy-out-union
-element-copy-out-union c = search needs
+element-copy-out-less : tie.Need-element-copy-out-less
+element-copy-out-less c = search needs
+
+less-requires : tie.Need-less-requires
+less-requires c κs = search needs
 
 union-requires : tie.Need-union-requires
 union-requires c κs = search needs
 
 returns-2 : tie.Need-returns-2
 returns-2 c t l =
-    let start = c .before .before .before .before .before .before in
+    let first = c .before .before .before .before .before .before in
+    let start = first .before in
     c .union .ensures t
-    ∙ rw (bit-and (getD (start .args .held .now) (start .args .p) 0) (getD (start .args .plain .now) (start .args .p) 0) t, some-taken (c .before .before .before .before .before))
-    (ap (λ (b : Bool). bit (start .args .all) t || b) (start .pre .1 .1 (c .before .before .if2 .taken) t l))
+    ∙ rw (c .before .less .ensures t, some-taken first)
+    (ap (λ (b : Bool). bit (start .args .all) t || b) (start .pre .1 .1 (c .before .before .before .if2 .taken) t l))
+
+add-less : tie.Need-add-less
+add-less c = search needs
+
+mul-less-2 : tie.Need-mul-less-2
+mul-less-2 c = search needs
+
+element-copy-out-less-2 : tie.Need-element-copy-out-less-2
+element-copy-out-less-2 c = search needs
+
+less-requires-2 : tie.Need-less-requires-2
+less-requires-2 c κs = search needs
 
 union-requires-2 : tie.Need-union-requires-2
 union-requires-2 c κs = search needs
 
 returns-3 : tie.Need-returns-3
 returns-3 c t l =
-    let start = c .before .before .before .before .before .before in
+    let first = c .before .before .before .before .before .before .before in
+    let start = first .before in
     c .union2 .ensures t
-    ∙ rw (some-taken (c .before .before .before .before .before), c .before .if3 .taken)
-    (ap (λ (b : Bool). bit (start .args .all) t || b) (go (bit (getD (start .args .plain .now) (start .args .p) 0) t) refl))
+    ∙ rw (c .before .before .less2 .ensures t, some-taken first, c .before .if3 .taken)
+    (ap (λ (b : Bool). bit (start .args .all) t || b) (go _ (start .pre .1 .0 t l)))
   where
-    go : (b : Bool) → bit (getD (c .before .before .before .before .before .before .args .plain .now) (c .before .before .before .before .before .before .args .p) 0) t ≡ b
-        → b ≡ (b && ltb 0 (cell (c .before .before .before .before .before .before .args .w .now) (c .before .before .before .before .before .before .args .p) t))
-    go true e = sym (lt-ltb 0 _ (c .before .before .before .before .before .before .pre .1 .0 t l e))
-    go false e = refl
+    go : {k : ℕ} (b : Bool) → (b ≡ true → 1 ≤ k) → b ≡ (b && ltb 0 k)
+    go {k} true weighs = sym (lt-ltb 0 k (weighs refl))
+    go false weighs = refl
 
 mul-level-of : tie.Need-mul-level-of
 mul-level-of c = search needs
@@ -70,7 +83,7 @@ index-1-level-of : tie.Need-index-1-level-of
 index-1-level-of c = search needs
 
 level-of-requires : tie.Need-level-of-requires
-level-of-requires c κs = omega (arith, c .before .before .before .before .before .before .pre .0 .1)
+level-of-requires c κs = omega (arith, c .before .before .before .before .before .before .before .before .pre .0 .1)
 
 union-requires-3 : tie.Need-union-requires-3
 union-requires-3 c κs = search needs
@@ -78,21 +91,28 @@ union-requires-3 c κs = search needs
 returns-4 : tie.Need-returns-4
 returns-4 c t l =
     let x = c .before .level-of .ensures in
-    c .union3 .ensures t ∙ rw (some-taken (c .before .before .before .before .before .before .before), x .short-is _ (x .inside .0) (x .inside .1) t)
+    let plainly = c .before .before .before .before in
+    let first = plainly .before .before .before .before .before in
+    c .union3 .ensures t ∙ rw (some-taken first, x .short-is _ (x .inside .0) (x .inside .1) t, plainly .less2 .ensures t)
 
 pub starved-spec : {M : Type 1} → statement M
 starved-spec =
     tie.close
     (tie.spec
     returns
-    mul-plain-here
-    element-copy-out-plain-here
+    mul-curbs-here
+    element-copy-out-curbs-here
     mul-if2
     element-copy-out-if2
-    mul-union
-    element-copy-out-union
+    mul-less
+    element-copy-out-less
+    less-requires
     union-requires
     returns-2
+    add-less
+    mul-less-2
+    element-copy-out-less-2
+    less-requires-2
     union-requires-2
     returns-3
     mul-level-of

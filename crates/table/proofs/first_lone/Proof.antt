@@ -1,4 +1,4 @@
--- The loop keeps that no place before p is alone, and that `all` has the transitions of those places' arcs.
+-- In a sound index none is alone; else the loop keeps that no place before p is alone, and that `all` has the transitions of those places' arcs.
 use mathlib.Core.Bool.{false, not, _&&_}
 use mathlib.Core.Path.{_≡_, sym, ap, _∙_}
 use Prim.Native.Nat.{ℕ, _+_, _-_, _≤_, _<_}
@@ -10,19 +10,23 @@ use Rattle.meaning.proofs.Below.{first-is, first-le}
 use Rattle.sets.proofs.Bits.{bit-zero}
 use Rattle.table.specs.Index.{Reaches, has-transition, lone}
 use Rattle.table.proofs.Firsts.{none-yet, none-more, lone-place, more-arcs, lone-first, arc-bit}
+use Rattle.table.proofs.Known.{none-alone}
 use Rattle.table.proofs.first_lone.Statement.{statement}
 use Rattle.table.proofs.first_lone.Tie as tie
 
 abbrev Inv-loop : tie.InvT-loop
-Inv-loop rows n all₀ p₀ all p =
+Inv-loop rows n sound all₀ p₀ all p =
     (p ≤ n) × Reaches rows n × ((k : ℕ) → k < p → lone rows k ≡ false) × ((t : ℕ) → bit all t ≡ some p (λ p. arc-bit rows p t))
 
 abbrev μ-loop : tie.MeasureT-loop
-μ-loop rows n all₀ p₀ all p = n - p
+μ-loop rows n sound all₀ p₀ all p = n - p
+
+returns : tie.Need-returns Inv-loop μ-loop
+returns c = sym (none-alone (c .before .pre .1 (c .if1 .taken)))
 
 loop-holds : tie.Need-loop-holds Inv-loop μ-loop
 unfolding some
-loop-holds c = (omega arith, c .pre, none-yet _, bit-zero)
+loop-holds c = (omega arith, c .before .pre .0, none-yet _, bit-zero)
 
 add-union : tie.Need-add-union Inv-loop μ-loop
 add-union c = search needs
@@ -56,16 +60,17 @@ place-alone-requires c κs = search needs
 
 -- The test of a place is that of the index.
 tested : (c : tie.After-place-alone Inv-loop μ-loop)
-    → c .place-alone .result ≡ lone (c .before .before .before .before .before .before .before .args .rows .now) (c .before .before .before .before .before .before .loop .p)
+    → let at = c .before .before .before .before .before .before in
+    c .place-alone .result ≡ lone (at .before .before .args .rows .now) (at .loop .p)
 tested c =
     let arcs = c .before .before .union in
     c .place-alone .ensures
     ∙ lone-place _ (c .before .before .before .before .before .before .loop .p) (arcs .result) (omega arith) (omega arith) (arcs .ensures)
 
-returns : tie.Need-returns Inv-loop μ-loop
-returns c =
+returns-2 : tie.Need-returns-2 Inv-loop μ-loop
+returns-2 c =
     let at = c .before .before .before .before .before .before .before .loop in
-    sym (first-is 192 _ (at .p) (omega arith) (sym (tested (c .before)) ∙ c .if1 .taken) (at .inv .2))
+    sym (first-is 192 _ (at .p) (omega arith) (sym (tested (c .before)) ∙ c .if2 .taken) (at .inv .2))
 
 union-requires-2 : tie.Need-union-requires-2 Inv-loop μ-loop
 union-requires-2 c κs = search needs
@@ -78,13 +83,13 @@ loop-less c = search needs
 
 loop-again : tie.Need-loop-again Inv-loop μ-loop
 loop-again c =
-    let rows = c .before .before .before .before .before .before .before .before .before .args .rows .now in
+    let rows = c .before .before .before .before .before .before .before .before .before .before .args .rows .now in
     let at = c .before .before .before .before .before .before .before .before .loop in
     let arcs = c .before .before .before .before .union in (
       omega arith,
       at .inv .1,
-      none-more (at .p) _ (at .inv .2) (sym (tested (c .before .before)) ∙ c .before .if1 .left),
-      more-arcs rows (at .p) (at .all) (arcs .result) (c .union2 .result) (at .inv .3) (arcs .ensures) (c .union2 .ensures),
+      none-more (at .p) _ (at .inv .2) (sym (tested (c .before .before)) ∙ c .before .if2 .left),
+      λ t. more-arcs rows (at .p) t (at .all) (arcs .result) (c .union2 .result) (at .inv .3 t) (arcs .ensures t) (c .union2 .ensures t),
     )
 
 first-transition-requires : tie.Need-first-transition-requires Inv-loop μ-loop
@@ -92,12 +97,12 @@ first-transition-requires c κs = search needs
 
 add-result : tie.Need-add-result Inv-loop μ-loop
 add-result c =
-    let rows = c .before .before .before .args .rows .now in
+    let rows = c .before .before .before .before .args .rows .now in
     let all = c .before .before .loop .all in
     omega (arith, c .first-transition .ensures, first-le 64 (λ t. has-transition rows t && not (bit all t)))
 
-returns-2 : tie.Need-returns-2 Inv-loop μ-loop
-returns-2 c =
+returns-3 : tie.Need-returns-3 Inv-loop μ-loop
+returns-3 c =
     let at = c .before .before .loop in
     ap (λ (n : ℕ). 128 + n) (c .first-transition .ensures)
     ∙ lone-first _ _ (at .p) (at .all) (at .inv .1) (omega arith) (at .inv .2) (at .inv .3)
@@ -108,6 +113,7 @@ first-lone-spec =
     (tie.spec
     Inv-loop
     μ-loop
+    returns
     loop-holds
     add-union
     mul-union
@@ -119,11 +125,11 @@ first-lone-spec =
     mul-place-alone
     element-copy-out-place-alone
     place-alone-requires
-    returns
+    returns-2
     union-requires-2
     add-p
     loop-less
     loop-again
     first-transition-requires
     add-result
-    returns-2)
+    returns-3)

@@ -1,4 +1,4 @@
--- `first_unknown` meets its contract: none names an unknown, or the loop keeps that none before r does.
+-- In a sound index none names an unknown; else the loop keeps that none before r does.
 use mathlib.Core.Bool.{false}
 use mathlib.Core.Path.{_≡_, sym, _∙_}
 use Prim.Native.Nat.{ℕ, _-_, _≤_, _<_}
@@ -8,23 +8,21 @@ use Rattle.meaning.specs.Table.{table}
 use Rattle.meaning.proofs.Below.{first-is, first-none}
 use Rattle.table.specs.Index.{names-unknown-at}
 use Rattle.table.proofs.Firsts.{none-yet, none-more, named-at}
+use Rattle.table.proofs.Known.{records-known}
 use Rattle.table.proofs.first_unknown.Statement.{statement}
 use Rattle.table.proofs.first_unknown.Tie as tie
 
 abbrev Inv-loop : tie.InvT-loop
-Inv-loop t rows n count r₀ r = (r ≤ count) × ((k : ℕ) → k < r → names-unknown-at (table t) rows k ≡ false)
+Inv-loop t rows sound count r₀ r = (r ≤ count) × ((k : ℕ) → k < r → names-unknown-at (table t) rows k ≡ false)
 
 abbrev μ-loop : tie.MeasureT-loop
-μ-loop t rows n count r₀ r = count - r
-
-all-known-requires : tie.Need-all-known-requires Inv-loop μ-loop
-all-known-requires c κs = search needs
+μ-loop t rows sound count r₀ r = count - r
 
 returns : tie.Need-returns Inv-loop μ-loop
 unfolding table
 returns c =
-    let start = c .before .before .before in
-    sym (first-none _ _ (c .before .all-known .ensures _ (start .pre .0) (c .if1 .taken)))
+    let start = c .before .before in
+    sym (first-none _ _ (records-known (start .pre .1 (c .if1 .taken)) (start .pre .0)))
 
 loop-holds : tie.Need-loop-holds Inv-loop μ-loop
 loop-holds c = (omega arith, none-yet _)
@@ -37,7 +35,7 @@ unknown-requires c κs = search needs
 
 -- The test of the record that was read is that of the table's record.
 tested : (c : tie.After-unknown Inv-loop μ-loop)
-    → let a = c .before .before .before .before .before .before .before .args in
+    → let a = c .before .before .before .before .before .before .args in
     c .unknown .result ≡ names-unknown-at (table (a .t .now)) (a .rows .now) (c .before .before .before .loop .r)
 tested c = c .unknown .ensures ∙ named-at _ _ _ _ (c .before .read .ensures)
 
@@ -68,7 +66,6 @@ first-unknown-spec =
     (tie.spec
     Inv-loop
     μ-loop
-    all-known-requires
     returns
     loop-holds
     read-requires

@@ -1,0 +1,2 @@
+-- What the functions on rows of sets promise.
+pub mod Given
