@@ -1,6 +1,6 @@
 -- From the arrays to the table: a transition's words name the places of its input arcs, and a cell is the one arc of its place and transition, so what
 -- stops the transition by the arrays is what stops it by the table.
-use mathlib.Core.Bool.{Bool, true, false, cond, not, _&&_, Bool·beq}
+use mathlib.Core.Bool.{Bool, true, false, cond, not, _&&_}
 use mathlib.Core.List.{List}
 use mathlib.Core.Path.{_≡_, refl, sym, ap, _∙_}
 use Prim.Native.Nat.{ℕ, _+_, _-_, _≤_, _<_}
@@ -8,38 +8,24 @@ use native.Mathlib.Omega.{arith}
 use lib.Dec.{ltb, eqb}
 use lib.ListN.{getD}
 use borrow.Author.Tests.{ltb-true, ltb-false, eqb-true, eqb-false, lt-ltb, le-ltb, eq-eqb, ne-eqb, not-true}
-use Rattle.meaning.specs.Below.{some, every}
+use Rattle.meaning.specs.Below.{some}
 use Rattle.meaning.specs.Bytes.{bit}
 use Rattle.meaning.specs.Table.{Table, is, post}
 use Rattle.meaning.specs.Defined.{faulty}
 use Rattle.meaning.specs.Cycle.{stops, enabled}
 use Rattle.meaning.proofs.Bool.{and-left, and-right, and-true, not-both, same-test}
-use Rattle.meaning.proofs.Below.{every-elim, some-intro, some-elim, some-same}
+use Rattle.meaning.proofs.Below.{some-intro, some-elim, some-same}
 use Rattle.meaning.proofs.Shows.{Shows}
 use Rattle.meaning.proofs.Faults.{faultless}
 use Rattle.sets.proofs.Bits.{bit-zero, bits-bit}
 use Rattle.net.specs.Rows.{Weights, Sorts, input, cell}
-use Rattle.net.proofs.Carry.{latest-is}
+use Rattle.net.proofs.Carry.{each, latest-is}
 use Rattle.table.specs.Index.{row}
-use Rattle.table.proofs.Carry.{Clean}
-use Rattle.table.proofs.Rows.{kind-of, Spot, spot, row-test, beq-true}
+use Rattle.table.proofs.Carry.{Clean, input-is}
+use Rattle.table.proofs.Rows.{spot, row-test}
 use Rattle.enabled.specs.Held.{Empty-from, Levels, held-by}
 use Rattle.enabled.specs.Inputs.{Inputs, Inputs-of, in-words, stops-at, enabled-by}
 use Rattle.enabled.proofs.Held.{at-most, held-now, shown-now}
-
--- Four tests pass together, so each does.
-pub each : (a b c d : Bool) → (a && b && c && d) ≡ true → (a ≡ true) × (b ≡ true) × (c ≡ true) × (d ≡ true)
-each a b c d e =
-    let abc = and-left (a && b && c) d e in
-    let ab = and-left (a && b) c abc in
-    (and-left a b ab, and-right a b ab, and-right (a && b) c abc, and-right (a && b && c) d e)
-
--- A record in the block of the input arcs, class 2, is an arc and no post arc.
-input-is : {j o s : ℕ} (z : Spot j o s) → eqb (z .class) 2 ≡ (eqb j 3 && not (eqb j 3 && eqb s 3))
-unfolding every
-input-is z =
-    rw (z .post-is, z .kind-is)
-    (beq-true _ _ (every-elim 8 (λ c. Bool·beq (eqb c 2) (eqb (kind-of c) 3 && not (eqb c 3))) refl (z .class) (z .low)))
 
 -- Record r is an input arc to transition t.
 abbrev pub Arc : Table → ℕ → ℕ → Type 0

@@ -14,11 +14,11 @@ use Rattle.meaning.proofs.Bool.{and-left, and-right, and-true, same-test}
 use Rattle.meaning.proofs.Below.{some-intro, some-elim, some-same}
 use Rattle.net.specs.Rows.{Gathered, Weights, Sorts, cell}
 use Rattle.net.specs.Chains.{between, asking, Enters}
-use Rattle.net.proofs.Carry.{bit-record}
+use Rattle.net.proofs.Carry.{each, bit-record}
 use Rattle.table.proofs.Carry.{Clean}
 use Rattle.enabled.specs.Held.{Curbed}
 use Rattle.enabled.specs.Inputs.{Inputs, Inputs-of}
-use Rattle.enabled.proofs.Carry.{Arc, from-to, each, row-same, arc-of, comes, cell-of}
+use Rattle.enabled.proofs.Carry.{Arc, from-to, row-same, arc-of, comes, cell-of}
 
 module _ (tb : Table) (index : List ℕ) (clean : Clean tb index)
     (arcs : (r : ℕ) → r < tb .records → tb .kind r ≡ 3 → (tb .one r < 128) × (tb .two r < 64) × (1 ≤ tb .four r) × (tb .sort r ≤ 3)) where

@@ -32,7 +32,7 @@ swap true false true = refl
 swap true false false = refl
 
 -- Four tests pass together, so each does.
-each : (a b c d : Bool) → (a && b && c && d) ≡ true → (a ≡ true) × (b ≡ true) × (c ≡ true) × (d ≡ true)
+pub each : (a b c d : Bool) → (a && b && c && d) ≡ true → (a ≡ true) × (b ≡ true) × (c ≡ true) × (d ≡ true)
 each a b c d e =
     let abc = and-left (a && b && c) d e in
     let ab = and-left (a && b) c abc in

@@ -82,7 +82,7 @@ swap true false false = refl
 -- ON RECORDS THAT THE PAGE SHOWS
 
 -- An arc is an input arc, which is of class 2, or a post arc.
-input-is : {j o s : ℕ} (z : Spot j o s) → eqb (z .class) 2 ≡ (eqb j 3 && not (eqb j 3 && eqb s 3))
+pub input-is : {j o s : ℕ} (z : Spot j o s) → eqb (z .class) 2 ≡ (eqb j 3 && not (eqb j 3 && eqb s 3))
 unfolding every
 input-is z =
     rw (z .post-is, z .kind-is)

@@ -1,15 +1,14 @@
 -- The loop keeps what is kept or still to be kept: whoever is in the set's rest and has no condition against one of i's.
-use mathlib.Core.Bool.{Bool, true, false, not, _&&_, _||_, and-true, and-false, or-false}
+use mathlib.Core.Bool.{Bool, true, false, not, _&&_, _||_, or-false}
 use mathlib.Core.Logic.{inl, inr}
-use mathlib.Core.Path.{_≡_, refl, sym, ap, _∙_}
+use mathlib.Core.Path.{_≡_, sym, ap, _∙_}
 use Prim.Native.Nat.{ℕ, _^_, _<_}
 use native.Mathlib.Omega.{arith}
 use lib.Dec.{eqb, ltb}
 use borrow.Author.Needs.{needs}
-use borrow.Author.Tests.{eqb-true, lt-ltb}
 use Rattle.meaning.specs.Bytes.{bit}
 use Rattle.sets.proofs.Bits.{bit-zero}
-use Rattle.sets.proofs.Members.{lowest-in, falls}
+use Rattle.sets.proofs.Members.{lowest-in, falls, kept}
 use Rattle.pairs.specs.Settled.{crossed-at}
 use Rattle.pairs.proofs.left_of.Statement.{statement}
 use Rattle.pairs.proofs.left_of.Tie as tie
@@ -78,15 +77,6 @@ loop-less c =
     falls (at .left) _ (c .rest .result) (c .rest .ensures) (at .inv .0) (omega arith)
     (rw (← c .before .before .before .before .before .lowest .ensures) (member (c .before .before .before .before .before) .1))
 
--- Whoever is looked at is kept if it passes f, and goes out of what is left.
-one-less : (f : ℕ → Bool) (k kept left new rest : ℕ) (b : Bool) → bit left k ≡ true → b ≡ f k → ((j : ℕ) → bit new j ≡ (bit kept j || (b && eqb k j)))
-    → ((j : ℕ) → bit rest j ≡ (bit left j && not (eqb k j))) → (j : ℕ) → (bit new j || (bit rest j && f j)) ≡ (bit kept j || (bit left j && f j))
-one-less f k kept left new rest b has passes gains less j = rw (gains j, less j) (go (eqb k j) refl)
-  where
-    go : (x : Bool) → eqb k j ≡ x → (bit kept j || (b && x) || (bit left j && not x && f j)) ≡ (bit kept j || (bit left j && f j))
-    go true e = rw (← eqb-true k j e, has, ← passes, and-true b) (or-false (bit kept k || b))
-    go false e = rw (and-false b, or-false (bit kept j), and-true (bit left j))
-
 loop-again : tie.Need-loop-again Inv-loop μ-loop
 loop-again c =
     let asked = c .before .before in
@@ -97,14 +87,13 @@ loop-again c =
     let j : ℕ = low .lowest .result in
     let less = rw (← low .lowest .ensures) at (c .rest .ensures) in
     let f : ℕ → Bool = λ j. not (crossed-at (a .index .now) (a .truths .now) (a .i) j) in
-    let one : (b : Bool) → b ≡ f j → ((m : ℕ) → bit (c .before .if1 .kept) m ≡ (bit (at .kept) m || (b && eqb j m)))
+    let one : (b : Bool) → b ≡ f j → ((m : ℕ) → bit (c .before .if1 .kept) m ≡ (bit (at .kept) m || (b && (eqb j m && ltb j 64))))
     → (m : ℕ) → (bit (c .before .if1 .kept) m || (bit (c .rest .result) m && f m)) ≡ (bit (at .kept) m || (bit (at .left) m && f m)) =
-    λ b e gains. one-less f j (at .kept) (at .left) (c .before .if1 .kept) (c .rest .result) b (k .1) e gains less in
-    let alone : (m : ℕ) → (eqb j m && ltb j 64) ≡ eqb j m = λ m. rw (lt-ltb j 64 (k .0)) (and-true (eqb j m)) in
+    λ b e gains. kept (at .left) j (c .rest .result) less f (at .kept) (c .before .if1 .kept) b (k .0) (k .1) e gains in
     let whole = ap not (asked .crossed .ensures) in (
       omega arith,
       elim (c .before .if1 .came) [
-        | inl w ↦ λ m h. one true (sym (w .0 .taken) ∙ whole) (λ q. rw (w .2) (w .1 .ensures q ∙ rw (alone q))) m ∙ at .inv .1 m h
+        | inl w ↦ λ m h. one true (sym (w .0 .taken) ∙ whole) (λ q. rw (w .2) (w .1 .ensures q)) m ∙ at .inv .1 m h
         | inr w ↦ λ m h. one false (sym (w .0 .left) ∙ whole) (λ q. rw (w .1) (sym (or-false (bit (at .kept) q)))) m ∙ at .inv .1 m h
       ],
     )
