@@ -2,7 +2,7 @@
 use mathlib.Core.Bool.{Bool, true, false, cond, not, _&&_, _||_, and-false}
 use mathlib.Core.List.{List}
 use mathlib.Core.Path.{_≡_, refl, sym, _∙_}
-use Prim.Native.Nat.{ℕ, zero, suc, _+_, _≤_, _<_}
+use Prim.Native.Nat.{ℕ, zero, suc, _+_, _*_, _≤_, _<_}
 use native.Mathlib.Omega.{arith}
 use lib.Dec.{eqb}
 use lib.ListN.{getD}
@@ -12,7 +12,7 @@ use Rattle.meaning.specs.Table.{Table, table, is}
 use Rattle.meaning.proofs.Bool.{or-true-right}
 use Rattle.meaning.specs.Priority.{through, above as stands-above}
 use Rattle.net.specs.Rows.{Gathered, Blank-from, Weights, Sorts}
-use Rattle.net.specs.Chains.{Touches, Enters}
+use Rattle.net.specs.Chains.{Enters}
 use Rattle.timing.specs.declared.Intervals.{Intervals}
 use Rattle.timing.proofs.Carry.{untimed}
 use Rattle.table.specs.Index.{transitions-below}
@@ -20,6 +20,7 @@ use Rattle.table.proofs.Carry.{Clean, transition-bit}
 use Rattle.table.proofs.Firsts.{past-transitions, few-transitions}
 use Rattle.enabled.specs.Inputs.{Inputs-of}
 use Rattle.enabled.specs.Held.{Empty-from}
+use Rattle.enabled.proofs.Held.{empty-past}
 use Rattle.enabled.proofs.Laid.{inputs-hold, curbed}
 use Rattle.edges.specs.Edges.{Limits}
 use Rattle.fire.specs.Rivals.{Rivals}
@@ -47,14 +48,13 @@ module _ {bs : List ℕ} {x : Intervals} {index higher takers truths heads next 
   pub net-of : (known : ℕ) → ((t : ℕ) → t < 64 → bit known t ≡ bit (getD index (128 + t) 0) 0)
       → (timed : ℕ) → ((t : ℕ) → t < 64 → bit timed t ≡ not (eqb (getD (x .sorts) t 0) 0))
       → (conditional : ℕ) → ((t : ℕ) → t < 64 → bit conditional t ≡ not (eqb (getD index (448 + t) 0) 0))
-      → (n : ℕ) → Empty-from index n → (limit last : List ℕ) → Limits x limit last
+      → (n : ℕ) → Empty-from index n × (n ≤ reach) → (eights : ℕ) → (reach ≤ 8 * eights) × (8 * eights ≤ 128) → (limit last : List ℕ) → Limits x limit last
       → (low high : List ℕ) → Enters (table bs) (table bs .records) low high
       → (rivals : List ℕ) (lower : ℕ) → Rivals higher takers low high rivals lower
       → (w s : List (List ℕ)) → Weights (table bs) w → Sorts (table bs) s → (curbs : List ℕ) → Gathered (table bs) 3 2 curbs
-      → (near far : List ℕ) → Touches (table bs) (table bs .records) near far
-      → Net-of bs known timed conditional lower n x limit last index rivals w s takers low high curbs heads next near far truths
-  net-of known known-is timed timed-is conditional conditional-is n within limit last limits low high entering rivals lower rivals-are w s weights sorts curbs
-      curbing near far touching =
+      → Net-of bs known timed conditional lower eights x limit last index rivals w s takers low high curbs heads next truths
+  net-of known known-is timed timed-is conditional conditional-is n empty eights fill limit last limits low high entering rivals lower rivals-are w s weights sorts curbs
+      curbing =
       let inputs : Inputs-of index (record { low = low; high = high }) = inputs-hold (table bs) index clean (arcs bs (read .sound)) entering in
       record {
         sound = read .sound;
@@ -71,10 +71,10 @@ module _ {bs : List ℕ} {x : Intervals} {index higher takers truths heads next 
         sorts = sorts;
         takers-hold = read .takers-hold;
         inputs = inputs;
-        within = within;
+        within = empty-past (empty .0) (omega (arith, empty .1, fill .0)) (fill .1);
+        below = λ r l. omega (arith, read .below r l .0, fill .0);
         curbed = curbed (table bs) index clean (arcs bs (read .sound)) w s _ weights sorts inputs (input-once bs (read .sound)) curbs curbing;
         chains = read .chains;
-        touching = touching;
         truths-hold = read .truths-hold;
       }
 

@@ -1,6 +1,6 @@
 -- After each turn the arrays hold the state that the meaning's run has reached, and the report holds its records.
-use mathlib.Core.Bool.{Bool, true, false, cond}
-use mathlib.Core.List.{List, [], _∷_, _++_, append-assoc}
+use mathlib.Core.Bool.{cond}
+use mathlib.Core.List.{List, [], _∷_, _++_}
 use mathlib.Core.Path.{_≡_, refl, sym, ap, ap₂, _∙_}
 use Prim.Native.Nat.{ℕ, suc, _+_, _*_, _/_, _≤_, _<_}
 use native.Mathlib.Omega.{arith}
@@ -8,7 +8,7 @@ use lib.Dec.{eqb}
 use lib.ListN.{length, take, drop, length-append, length-drop}
 use lib.Seq.{drop-drop, take-at, drop-append-add, drop-length}
 use borrow.Author.Tests.{ne-eqb}
-use Rattle.meaning.specs.Below.{first, within}
+use Rattle.meaning.specs.Below.{first}
 use Rattle.meaning.specs.Bytes.{bytes, number}
 use Rattle.meaning.specs.Table.{table, ceiling}
 use Rattle.meaning.specs.Answer.{accepted}
@@ -16,7 +16,7 @@ use Rattle.meaning.specs.Defined.{check}
 use Rattle.meaning.specs.Image.{image, state, image-bytes, wrong}
 use Rattle.meaning.specs.Cycle.{overfull, cycle}
 use Rattle.meaning.specs.Calls.{words-of, trace}
-use Rattle.meaning.specs.Steps.{Stays, Bursts, Steps}
+use Rattle.meaning.specs.Steps.{Stays, Steps}
 use Rattle.meaning.proofs.Below.{first-before}
 use Rattle.meaning.proofs.Near.{Alike}
 use Rattle.meaning.proofs.Accepted.{accepted-well}

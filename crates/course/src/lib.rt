@@ -8,6 +8,7 @@ ghost use lib.ListN.{length, getD, replicate};
 ghost use Rattle.meaning.specs.Table.{table, total, arc};
 ghost use Rattle.meaning.specs.Image.{image-bytes};
 ghost use Rattle.image.specs.Held.{Small, held};
+ghost use Rattle.enabled.specs.Held.{Empty-from};
 ghost use Rattle.cycle.specs.Step.{Net-of, Sized};
 ghost use Rattle.course.specs.Course.{Read, Ready, Halts, Ends};
 
@@ -63,7 +64,8 @@ fn ceiling(top: u32, gain: u32, m: &[u32; 128]) -> u32
 }
 
 // One cycle a word over the rows of the table, from the state that the image holds, until one is refused or the words are done. Each finished cycle
-// writes its record; the tokens and counters are those after the last. All post arcs together weigh `gain`.
+// writes its record; the tokens and counters are those after the last. From place n on there is neither an input arc nor an action, and all post
+// arcs together weigh `gain`.
 fn cycles(
     t: &[u8],
     image: &[u8],
@@ -76,6 +78,7 @@ fn cycles(
     conditional: u64,
     lower: u64,
     n: usize,
+    eights: usize,
     gain: u32,
     sorts: &[u8; 64],
     a: &[u16; 64],
@@ -92,11 +95,10 @@ fn cycles(
     curbs: &[u64; 128],
     heads: &[u16; 256],
     next: &[u16; 1024],
-    near: &[u64; 64],
-    far: &[u64; 64],
     truths: &[u64; 128],
 ) -> Halted
-    requires { ⌜ Net-of (now t) known timed conditional lower n (record { sorts = now sorts; a = now a; b = now b }) (now limit) (now last) (now index) (now rivals) (now w) (now s) (now takers) (now low) (now high) (now curbs) (now heads) (now next) (now near) (now far) (now truths) ⌝ }
+    requires { ⌜ Net-of (now t) known timed conditional lower eights (record { sorts = now sorts; a = now a; b = now b }) (now limit) (now last) (now index) (now rivals) (now w) (now s) (now takers) (now low) (now high) (now curbs) (now heads) (now next) (now truths) ⌝ }
+    requires { ⌜ Empty-from (now index) n ⌝ }
     requires { ⌜ gain ≡ total (table (now t)) (arc (table (now t)) 3) (table (now t) .four) ⌝ }
     requires { ⌜ gain ≤ 67107840 ⌝ }
     requires { ⌜ Sized (now tokens) (now counters) ⌝ }
@@ -108,7 +110,7 @@ fn cycles(
     let mut held = [0u64; 128];
     let mut shown = [0u64; 128];
     let mut from = [0u32; 128];
-    let mut upto = [4294967295u32; 128];
+    let mut upto = [2147483647u32; 128];
     enabled::hold(
         tokens,
         index,
@@ -124,6 +126,8 @@ fn cycles(
     let mut before = [0u32; 64];
     let mut taken = [0u32; 128];
     let mut put = [0u32; 128];
+    let mut left = [0u32; 128];
+    let mut marks = [0u8; 128];
     let mut top: u32 = 65535;
     let mut i = 0;
     while i < count {
@@ -140,13 +144,15 @@ fn cycles(
             &mut upto,
             &mut taken,
             &mut put,
+            &mut left,
+            &mut marks,
             orders,
             word,
             known,
             timed,
             conditional,
             lower,
-            n,
+            eights,
             top,
             sorts,
             a,
@@ -163,8 +169,6 @@ fn cycles(
             curbs,
             heads,
             next,
-            near,
-            far,
             truths,
         );
         let over = r.over;
@@ -227,22 +231,12 @@ pub fn course(
     let mut curbs = [0u64; 128];
     let mut low = [0u64; 64];
     let mut high = [0u64; 64];
-    let mut near = [0u64; 64];
-    let mut far = [0u64; 64];
-    let gain = net::laying::lay_arcs(
-        t,
-        w,
-        s,
-        &mut curbs,
-        &mut low,
-        &mut high,
-        &mut near,
-        &mut far,
-    );
+    let gain = net::laying::lay_arcs(t, w, s, &mut curbs, &mut low, &mut high);
     let fewer = table::transitions(reach);
     let mut rivals = [0u64; 64];
     let lower = fire::rivals(higher, takers, &low, &high, &mut rivals, fewer);
     let n = enabled::bound(index, reach);
+    let eights = enabled::eights(reach);
     let known = enabled::known(index, reach);
     let timed = enabled::timed(x, fewer);
     let conditional = edges::conditional(index, fewer);
@@ -266,6 +260,7 @@ pub fn course(
         conditional,
         lower,
         n,
+        eights,
         gain,
         &sorts,
         &a,
@@ -282,8 +277,6 @@ pub fn course(
         &curbs,
         heads,
         next,
-        &near,
-        &far,
         truths,
     );
     let done = e.cycles;

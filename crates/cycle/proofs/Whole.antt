@@ -1,8 +1,8 @@
 -- What the parts of a cycle say of the rows is what the meaning says of the table.
-use mathlib.Core.Bool.{Bool, true, false, cond, not, _&&_, _||_, and-false}
+use mathlib.Core.Bool.{Bool, true, false, cond, not, _&&_, _||_}
 use mathlib.Core.List.{List}
 use mathlib.Core.Path.{_≡_, refl, sym, ap, _∙_, fun-ext}
-use Prim.Native.Nat.{ℕ, _+_, _-_, _^_, _≤_, _<_}
+use Prim.Native.Nat.{ℕ, _+_, _-_, _*_, _^_, _≤_, _<_}
 use native.Mathlib.Omega.{arith}
 use lib.Dec.{ltb, eqb}
 use lib.ListN.{length, getD}
@@ -11,11 +11,10 @@ use Rattle.meaning.specs.Below.{some, first, within}
 use Rattle.meaning.specs.Bytes.{bit}
 use Rattle.meaning.specs.Table.{table, total, arc, transition, timing, ceiling}
 use Rattle.meaning.specs.Cycle.{enabled, counted, falling, firable, withdrawn, added, fired, rising, marked, reset, executed, overfull}
-use Rattle.meaning.proofs.Below.{first-same, first-none}
-use Rattle.meaning.proofs.Bool.{or-false-left, or-false-right}
+use Rattle.meaning.proofs.Below.{some-same, first-same, first-none}
 use Rattle.meaning.proofs.Accepted.{accepted-well}
+use Rattle.meaning.proofs.Demand3.{start-pays}
 use Rattle.table.proofs.Carry.{Clean}
-use Rattle.places.specs.Set.{has}
 use Rattle.timing.specs.declared.Intervals.{Intervals}
 use Rattle.timing.proofs.Carry.{sort-is}
 use Rattle.image.specs.declared.Held.{Held}
@@ -27,14 +26,14 @@ use Rattle.edges.specs.Edges.{fallen, fallen-at, Falls, firable-at}
 use Rattle.edges.proofs.Carry.{fallen-same, timely-same, truths-looked, asked-same}
 use Rattle.moves.specs.declared.Moved.{Moved}
 use Rattle.moves.specs.Moves.{moved-at}
-use Rattle.moves.specs.Tallied.{Tallied, moved-by, moved-at-all}
-use Rattle.moves.proofs.Carry.{withdrawn-same, taken-is, put-is, unmoved, gain-covers}
+use Rattle.moves.specs.Tallied.{Tallied, moved-by, lacking}
+use Rattle.moves.proofs.Carry.{withdrawn-same, taken-is, put-is, some-moved, none-past, gain-covers}
 use Rattle.moves.proofs.Sums.{load-most}
 use Rattle.moves.proofs.Turns.{in-range}
 use Rattle.net.proofs.Arcs.{few-records}
 use Rattle.fire.specs.Fired.{Ranks, Fires}
 use Rattle.fire.proofs.Carry.{well-ranks, fires-is, rivals-rank, rivals-suffice}
-use Rattle.settle.specs.Settle.{new-at, Low, Crowded, Settled, Starves}
+use Rattle.settle.specs.Settle.{new-at, Low, Paid, Still, Lacks, Crowded, Settled, Starves}
 use Rattle.settle.proofs.Carry.{starves-same}
 use Rattle.report.proofs.Carry.{bits-of, actions-are, functions-are}
 use Rattle.cycle.specs.Step.{Net-of, Sized, Poised, Under, Stepped}
@@ -45,9 +44,9 @@ grouped : (a b c d : Bool) → (a && b && c && d) ≡ (a && (b && c && d))
 grouped true b c d = refl
 grouped false b c d = refl
 
-module _ {bs : List ℕ} {known timed conditional lower n : ℕ} {x : Intervals} {limit last index rivals : List ℕ}
-    {w s : List (List ℕ)} {takers low high curbs heads next near far truths : List ℕ}
-    (net : Net-of bs known timed conditional lower n x limit last index rivals w s takers low high curbs heads next near far truths) where
+module _ {bs : List ℕ} {known timed conditional lower eights : ℕ} {x : Intervals} {limit last index rivals : List ℕ}
+    {w s : List (List ℕ)} {takers low high curbs heads next truths : List ℕ}
+    (net : Net-of bs known timed conditional lower eights x limit last index rivals w s takers low high curbs heads next truths) where
   clean : Clean (table bs) index
   clean = record { fine = fine bs (net .sound); index = net .index-holds }
 
@@ -94,7 +93,7 @@ module _ {bs : List ℕ} {known timed conditional lower n : ℕ} {x : Intervals}
     pub small : Small h
     pub levels : Levels index w s (h .tokens) stopped shown from upto
     pub shut : ℕ
-    pub shut-is : (t : ℕ) → bit shut t ≡ some n (λ p. bit (getD stopped p 0) t)
+    pub shut-is : (t : ℕ) → bit shut t ≡ some (8 * eights) (λ p. bit (getD stopped p 0) t)
     pub on : ℕ
     pub on-is : (t : ℕ) → bit on t ≡ (bit known t && not (bit shut t))
     pub falls : Falls timed x (h .orders) on (h .counters) counters
@@ -102,7 +101,7 @@ module _ {bs : List ℕ} {known timed conditional lower n : ℕ} {x : Intervals}
     pub able-is : (t : ℕ) → bit able t ≡ (ltb t 64 && firable-at x counters on index truths word t)
     pub low-set : f < 2 ^ 64
     pub fires : Fires able rivals (h .tokens) w s takers low high f
-    pub tallied : Tallied (table bs) f index taken put moved
+    pub tallied : Tallied (table bs) f stopped curbs index taken put moved
 
   module _ {h : Held} {word : ℕ} {stopped shown from upto counters : List ℕ} {f : ℕ} {taken put : List ℕ} {moved : Moved}
       (told : Told h word stopped shown from upto counters f taken put moved) where
@@ -112,7 +111,7 @@ module _ {bs : List ℕ} {known timed conditional lower n : ℕ} {x : Intervals}
     abbrev on : ℕ
     on = told .on
 
-    abbrev tallied : Tallied (table bs) f index taken put moved
+    abbrev tallied : Tallied (table bs) f stopped curbs index taken put moved
     tallied = told .tallied
 
     -- The set of the enabled has the enabled transitions.
@@ -123,7 +122,7 @@ module _ {bs : List ℕ} {known timed conditional lower n : ℕ} {x : Intervals}
           net .known-is t l,
           told .shut-is t,
           held-same (table bs) w s index (record { low = low; high = high }) (net .weights) (net .sorts) clean (net .inputs) (arcs bs (net .sound))
-              (input-once bs (net .sound)) t l n (net .within) (h .tokens) stopped shown from upto (told .levels),
+              (input-once bs (net .sound)) t l (8 * eights) (net .within) (h .tokens) stopped shown from upto (told .levels),
           enables (h .tokens) t l,
         )
 
@@ -175,23 +174,42 @@ module _ {bs : List ℕ} {known timed conditional lower n : ℕ} {x : Intervals}
     one-set = fun-ext fired-bit
 
     is-taken : (p : ℕ) → p < 128 → getD taken p 0 ≡ withdrawn (table bs) (bit f) p
-    is-taken = taken-is (table bs) f index taken put moved tallied
+    is-taken = taken-is (table bs) f stopped curbs index taken put moved tallied
 
     is-put : (p : ℕ) → p < 128 → getD put p 0 ≡ added (table bs) (bit f) p
-    is-put = put-is (table bs) f index taken put moved tallied
+    is-put = put-is (table bs) f stopped curbs index taken put moved tallied
 
-    -- Elsewhere nothing is taken, and nothing is put.
-    not-taken : (p : ℕ) → p < 128 → has (moved .at) p ≡ false → getD taken p 0 ≡ 0
-    not-taken p l e = tallied .taken-is p l ∙ unmoved (table bs) 0 (bit f) p (or-false-left _ (moved-at-all (table bs) 3 (bit f) p) (sym (tallied .at-is p l) ∙ e))
+    -- The tokens pay for what is taken (demand 3), and past the eights nothing is taken or put.
+    pub paid : Paid (h .tokens) taken
+    unfolding falling
+    paid =
+        record {
+          pays = λ p l.
+              let pays = start-pays (table bs) (accepted-well bs (net .sound)) (falling (table bs) (held h)) word p in
+              let same : getD taken p 0 ≡ withdrawn (table bs) (within (fired (table bs) (falling (table bs) (held h)) word)) p =
+              is-taken p l ∙ ap (λ (F : ℕ → Bool). withdrawn (table bs) F p) one-set in
+              rw same pays;
+        }
 
-    not-put : (p : ℕ) → p < 128 → has (moved .at) p ≡ false → getD put p 0 ≡ 0
-    not-put p l e = tallied .put-is p l ∙ unmoved (table bs) 3 (bit f) p (or-false-right (moved-at-all (table bs) 0 (bit f) p) _ (sym (tallied .at-is p l) ∙ e))
+    pub still : Still (8 * eights) taken put
+    still =
+        record {
+          none-taken = λ p l k. tallied .taken-is p k ∙ none-past (table bs) (8 * eights) 0 (bit f) p (net .below) l;
+          none-put = λ p l k. tallied .put-is p k ∙ none-past (table bs) (8 * eights) 3 (bit f) p (net .below) l;
+        }
+
+    -- Something is taken exactly at the places of the fired ones' basic arcs.
+    pub lacks : Lacks taken stopped curbs (moved .lack)
+    lacks =
+        record {
+          holds = λ t l.
+              tallied .lack-is t
+              ∙ some-same 128 _ _
+              (λ p k. ap (λ (b : Bool). b && lacking stopped curbs p t) (some-moved bs (net .sound) 0 (bit f) p ∙ ap (ltb 0) (sym (tallied .taken-is p k))));
+        }
 
     abbrev new : ℕ → ℕ
     new = new-at (h .tokens) taken put
-
-    stays : (p : ℕ) → p < 128 → has (moved .at) p ≡ false → new p ≡ getD (h .tokens) p 0
-    stays p l e = rw (not-taken p l e, not-put p l e) (omega arith)
 
     -- The new tokens are those of the new marking.
     token-is : (p : ℕ) → p < 128
@@ -212,61 +230,43 @@ module _ {bs : List ℕ} {known timed conditional lower n : ℕ} {x : Intervals}
           let gain : getD put p 0 ≤ total (table bs) (arc (table bs) 3) (table bs .four) = rw (tallied .put-is p l) (gain-covers (table bs) (bit f) p) in
           omega (arith, under .room p l, gain)
 
-      pub crowded : Crowded (moved .at) ceiling (h .tokens) taken put
-      crowded = record { few = λ p l e c. omega (arith, c, topped p l) }
+      pub crowded : Crowded ceiling (h .tokens) taken put
+      crowded = record { few = λ p l c. omega (arith, c, topped p l) }
 
       -- With a ceiling that a place may have there is no overfull place.
-      pub only-crowded : (over : ℕ) → over ≡ first 128 (λ p. has (moved .at) p && ltb 65535 (new p)) → over < 128 → 65535 < ceiling
+      pub only-crowded : (over : ℕ) → over ≡ first 128 (λ p. ltb 65535 (new p)) → over < 128 → 65535 < ceiling
       only-crowded over over-is l = go (ltb 65535 ceiling) refl
         where
           go : (b : Bool) → ltb 65535 ceiling ≡ b → 65535 < ceiling
           go true e = ltb-true 65535 ceiling e
           go false e =
               let low : ceiling ≤ 65535 = ltb-false 65535 ceiling e in
-              let none : first 128 (λ p. has (moved .at) p && ltb 65535 (new p)) ≡ 128 =
-              first-none 128 _ (λ p h. rw (le-ltb 65535 (new p) (omega (arith, low, topped p h))) (and-false (has (moved .at) p))) in
+              let none : first 128 (λ p. ltb 65535 (new p)) ≡ 128 =
+              first-none 128 _ (λ p h. le-ltb 65535 (new p) (omega (arith, low, topped p h))) in
               absurd (omega (arith, l, over-is, none))
 
     -- The places are settled.
-    module _ {tokens taken′ put′ : List ℕ} (settled : Settled (h .tokens) (moved .at) taken put tokens taken′ put′) where
-      settles : (p : ℕ) → p < 128 → getD tokens p 0 ≡ new p
-      settles p l = settled .tokens p l ∙ go (has (moved .at) p) refl
-        where
-          go : (b : Bool) → has (moved .at) p ≡ b → cond b (new p) (getD (h .tokens) p 0) ≡ new p
-          go true e = refl
-          go false e = sym (stays p l e)
-
+    module _ {tokens taken′ put′ : List ℕ} (settled : Settled (h .tokens) taken put tokens taken′ put′) where
       -- No place is above the ceiling.
       pub topped-still : (ceiling : ℕ) → Under bs (h .tokens) ceiling → (p : ℕ) → p < 128 → getD tokens p 0 ≤ ceiling
-      topped-still ceiling under p l = rw (settles p l) (topped ceiling under p l)
+      topped-still ceiling under p l = rw (settled .tokens p l) (topped ceiling under p l)
 
       -- What was taken and put is done with.
-      pub poised : {held shown from upto : List ℕ} → Levels index w s tokens held shown from upto → Poised index w s tokens held shown from upto taken′ put′
-      poised again =
+      pub poised : {held shown from upto left marks : List ℕ} → Levels index w s tokens held shown from upto → (length left ≡ 128) × (length marks ≡ 128)
+          → Poised index w s tokens held shown from upto taken′ put′ left marks
+      poised again room =
           record {
             levels = again;
-            none-taken = record { size = settled .sizes .1; none = λ p l. settled .no-taken p l ∙ clear p l (has (moved .at) p) refl };
-            none-put = record { size = settled .sizes .2; none = λ p l. settled .no-put p l ∙ clear-put p l (has (moved .at) p) refl };
+            none-taken = record { size = settled .sizes .1; none = settled .no-taken };
+            none-put = record { size = settled .sizes .2; none = settled .no-put };
+            room = room;
           }
-        where
-          clear : (p : ℕ) → p < 128 → (b : Bool) → has (moved .at) p ≡ b → cond b 0 (getD taken p 0) ≡ 0
-          clear p l true e = refl
-          clear p l false e = not-taken p l e
 
-          clear-put : (p : ℕ) → p < 128 → (b : Bool) → has (moved .at) p ≡ b → cond b 0 (getD put p 0) ≡ 0
-          clear-put p l true e = refl
-          clear-put p l false e = not-put p l e
-
-    module _ (over : ℕ) (over-is : over ≡ first 128 (λ p. has (moved .at) p && ltb 65535 (new p))) (actions : ℕ)
-        (actions-is : (k : ℕ) → bit actions k ≡ some n (λ p. bit (getD shown p 0) k)) (actions-low : actions < 2 ^ 64) (functions-low : moved .functions < 2 ^ 64) where
-      -- No place elsewhere is overfull.
+    module _ (over : ℕ) (over-is : over ≡ first 128 (λ p. ltb 65535 (new p))) (actions : ℕ)
+        (actions-is : (k : ℕ) → bit actions k ≡ some (8 * eights) (λ p. bit (getD shown p 0) k)) (actions-low : actions < 2 ^ 64) (functions-low : moved .functions < 2 ^ 64) where
       first-is : over ≡ first 128 (overfull (table bs) (rising (table bs) (falling (table bs) (held h)) (within (fired (table bs) (falling (table bs) (held h)) word))))
       unfolding falling rising overfull ceiling
-      first-is = over-is ∙ first-same 128 _ _ (λ p l. go p l (has (moved .at) p) refl ∙ ap (ltb 65535) (token-is p l))
-        where
-          go : (p : ℕ) → p < 128 → (b : Bool) → has (moved .at) p ≡ b → (b && ltb 65535 (new p)) ≡ ltb 65535 (new p)
-          go p l true e = refl
-          go p l false e = sym (rw (stays p l e) (le-ltb 65535 (getD (h .tokens) p 0) (small .tokens p l)))
+      first-is = over-is ∙ first-same 128 _ _ (λ p l. ap (ltb 65535) (token-is p l))
 
       -- What the cycle says, whatever it leaves.
       pub says : (orders : ℕ) (tokens after : List ℕ) (kept : over < 128 → (tokens ≡ h .tokens) × (after ≡ h .counters) × (orders ≡ h .orders))
@@ -279,7 +279,7 @@ module _ {bs : List ℕ} {known timed conditional lower n : ℕ} {x : Intervals}
             fired-is = bits-of f _ (told .low-set) (λ t l. fired-bit t);
             actions-are =
                 bits-of actions _ actions-low
-                (λ k l. actions-is k ∙ shown-same n (net .within) (told .levels) k ∙ actions-are clean (held h .tokens) k l);
+                (λ k l. actions-is k ∙ shown-same (8 * eights) (net .within) (told .levels) k ∙ actions-are clean (held h .tokens) k l);
             functions-are =
                 bits-of (moved .functions) _ functions-low
                 (λ k l. tallied .functions-are k ∙ functions-are clean (bit f) k l ∙ ap (λ (F : ℕ → Bool). executed (table bs) F k) one-set);
@@ -294,9 +294,9 @@ module _ {bs : List ℕ} {known timed conditional lower n : ℕ} {x : Intervals}
           → Stepped (table bs) h word (record { fired = f; actions = actions; functions = moved .functions; over = over; orders = h .orders }) (h .tokens) (h .counters)
       bursts l sized = says (h .orders) (h .tokens) (h .counters) (λ b. (refl, refl, refl)) (λ b. absurd (omega (arith, b, l))) sized
 
-      module _ (full : 128 ≤ over) (starved after : ℕ) (starves : Starves (h .tokens) (moved .at) taken index curbs w starved)
+      module _ (full : 128 ≤ over) (starved after : ℕ) (starves : Starves (h .tokens) taken index curbs w starved)
           (after-is : (t : ℕ) → bit after t ≡ (bit timed t && (bit f t || bit starved t))) {tokens taken′ put′ : List ℕ}
-          (settled : Settled (h .tokens) (moved .at) taken put tokens taken′ put′) where
+          (settled : Settled (h .tokens) taken put tokens taken′ put′) where
         -- The orders are those after the rising edge.
         order-is : (t : ℕ) → t < 64 → bit after t ≡ reset (table bs) (held h .tokens) (bit f) t
         unfolding reset
@@ -305,8 +305,8 @@ module _ {bs : List ℕ} {known timed conditional lower n : ℕ} {x : Intervals}
             ∙ rw (
               timed-bit t l,
               starves-same (table bs) w s index (record { low = low; high = high }) (net .weights) (net .sorts) clean (net .inputs)
-                  (arcs bs (net .sound)) (input-once bs (net .sound)) t l (h .tokens) taken curbs (moved .at) starved (net .curbed) starves (bit f)
-                  is-taken not-taken,
+                  (arcs bs (net .sound)) (input-once bs (net .sound)) t l (h .tokens) taken curbs starved (net .curbed) starves (bit f)
+                  is-taken,
             )
 
         pub stepped : length counters ≡ 64
@@ -316,7 +316,7 @@ module _ {bs : List ℕ} {known timed conditional lower n : ℕ} {x : Intervals}
             says after tokens counters (λ b. absurd (omega (arith, b, full)))
             (λ b.
             record {
-              tokens = λ p l. settles settled p l ∙ token-is p l;
+              tokens = λ p l. settled .tokens p l ∙ token-is p l;
               counters = counter-is;
               orders = λ t l. order-is t l ∙ ap (λ (F : ℕ → Bool). reset (table bs) (held h .tokens) F t) one-set;
             })

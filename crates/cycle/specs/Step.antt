@@ -2,7 +2,7 @@
 use mathlib.Core.Bool.{not}
 use mathlib.Core.List.{List}
 use mathlib.Core.Path.{_≡_}
-use Prim.Native.Nat.{ℕ, _+_, _≤_, _<_}
+use Prim.Native.Nat.{ℕ, _+_, _*_, _≤_, _<_}
 use lib.Dec.{eqb}
 use lib.ListN.{length, getD}
 use Rattle.meaning.specs.Below.{first, within}
@@ -13,7 +13,6 @@ use Rattle.meaning.specs.Priority.{above}
 use Rattle.meaning.specs.Defined.{check}
 use Rattle.meaning.specs.Cycle.{falling, fired, rising, active, executed, overfull}
 use Rattle.net.specs.Rows.{Gathered, Weights, Sorts}
-use Rattle.net.specs.Chains.{Touches}
 use Rattle.net.specs.Links.{Chained}
 use Rattle.timing.specs.declared.Intervals.{Intervals}
 use Rattle.timing.specs.Times.{Times-of}
@@ -27,9 +26,10 @@ use Rattle.image.specs.declared.Held.{Held}
 use Rattle.image.specs.Held.{held, Holds}
 use Rattle.cycle.specs.declared.Outcome.{Outcome}
 
--- The rows are those of the accepted table that the bytes spell. The rivals of a transition are of those above it, whose rows are `higher`.
-pub record Net-of (bs : List ℕ) (known timed conditional lower n : ℕ) (x : Intervals) (limit last index rivals : List ℕ)
-    (w s : List (List ℕ)) (takers low high curbs heads next near far truths : List ℕ) : Type 0 where
+-- The rows are those of the accepted table that the bytes spell, whose places fill so many eights. The rivals of a transition are of those above it, whose
+-- rows are `higher`.
+pub record Net-of (bs : List ℕ) (known timed conditional lower eights : ℕ) (x : Intervals) (limit last index rivals : List ℕ)
+    (w s : List (List ℕ)) (takers low high curbs heads next truths : List ℕ) : Type 0 where
   pub sound : check bs ≡ accepted 0
   pub index-holds : Indexed (table bs) (table bs .records) index
   pub known-is : (t : ℕ) → t < 64 → bit known t ≡ transition (table bs) t
@@ -44,17 +44,18 @@ pub record Net-of (bs : List ℕ) (known timed conditional lower n : ℕ) (x : I
   pub sorts : Sorts (table bs) s
   pub takers-hold : Gathered (table bs) 3 0 takers
   pub inputs : Inputs-of index (record { low = low; high = high })
-  pub within : Empty-from index n
+  pub within : Empty-from index (8 * eights)
+  pub below : (r : ℕ) → r < table bs .records → table bs .one r < 8 * eights
   pub curbed : Curbed index s curbs
   pub chains : Chained (table bs) heads next
-  pub touching : Touches (table bs) (table bs .records) near far
   pub truths-hold : Gathered (table bs) 4 0 truths
 
--- What is kept of each place spans its tokens, and nothing is taken or put yet.
-pub record Poised (index : List ℕ) (w s : List (List ℕ)) (tokens held shown from upto taken put : List ℕ) : Type 0 where
+-- What is kept of each place spans its tokens, and nothing is taken or put yet; the two rows to work with have a place each for every place.
+pub record Poised (index : List ℕ) (w s : List (List ℕ)) (tokens held shown from upto taken put left marks : List ℕ) : Type 0 where
   pub levels : Levels index w s tokens held shown from upto
   pub none-taken : Unmoved taken
   pub none-put : Unmoved put
+  pub room : (length left ≡ 128) × (length marks ≡ 128)
 
 -- The tokens of each place, and with them the weights of all post arcs, stay at or below the ceiling.
 pub record Under (bs tokens : List ℕ) (ceiling : ℕ) : Type 0 where

@@ -39,13 +39,15 @@ pub fn step(
     upto: &mut [u32; 128],
     taken: &mut [u32; 128],
     put: &mut [u32; 128],
+    left: &mut [u32; 128],
+    marks: &mut [u8; 128],
     orders: u64,
     word: u64,
     known: u64,
     timed: u64,
     conditional: u64,
     lower: u64,
-    n: usize,
+    eights: usize,
     ceiling: u32,
     sorts: &[u8; 64],
     a: &[u16; 64],
@@ -62,31 +64,30 @@ pub fn step(
     curbs: &[u64; 128],
     heads: &[u16; 256],
     next: &[u16; 1024],
-    near: &[u64; 64],
-    far: &[u64; 64],
     truths: &[u64; 128],
 ) -> Outcome
-    requires { ⌜ Net-of (now t) known timed conditional lower n (record { sorts = now sorts; a = now a; b = now b }) (now limit) (now last) (now index) (now rivals) (now w) (now s) (now takers) (now low) (now high) (now curbs) (now heads) (now next) (now near) (now far) (now truths) ⌝ }
+    requires { ⌜ Net-of (now t) known timed conditional lower eights (record { sorts = now sorts; a = now a; b = now b }) (now limit) (now last) (now index) (now rivals) (now w) (now s) (now takers) (now low) (now high) (now curbs) (now heads) (now next) (now truths) ⌝ }
     requires { ⌜ Small (record { tokens = now tokens; counters = now counters; orders = orders }) ⌝ }
     requires { ⌜ Sized (now tokens) (now counters) ⌝ }
-    requires { ⌜ Poised (now index) (now w) (now s) (now tokens) (now held) (now shown) (now from) (now upto) (now taken) (now put) ⌝ }
+    requires { ⌜ Poised (now index) (now w) (now s) (now tokens) (now held) (now shown) (now from) (now upto) (now taken) (now put) (now left) (now marks) ⌝ }
     requires { ⌜ Under (now t) (now tokens) ceiling ⌝ }
     ensures { λ r. ⌜ Stepped (table (now (t .entry))) (record { tokens = now (tokens .entry); counters = now (counters .entry); orders = orders }) word r (now (tokens .exit)) (now (counters .exit)) ⌝ }
-    ensures { λ r. ⌜ (128 ≤ r .over → Poised (now (index .entry)) (now (w .entry)) (now (s .entry)) (now (tokens .exit)) (now (held .exit)) (now (shown .exit)) (now (from .exit)) (now (upto .exit)) (now (taken .exit)) (now (put .exit))) ⌝ }
+    ensures { λ r. ⌜ (128 ≤ r .over → Poised (now (index .entry)) (now (w .entry)) (now (s .entry)) (now (tokens .exit)) (now (held .exit)) (now (shown .exit)) (now (from .exit)) (now (upto .exit)) (now (taken .exit)) (now (put .exit)) (now (left .exit)) (now (marks .exit))) ⌝ }
     ensures { λ r. ⌜ (128 ≤ r .over → (p : ℕ) → p < 128 → getD (now (tokens .exit)) p 0 ≤ ceiling) ⌝ }
 {
+    let n = 8 * eights;
     // The falling edge.
-    let on = sets::less(known, enabled::all_of(held, n));
-    let actions = enabled::all_of(shown, n);
+    let seen = enabled::gather(held, shown, n);
+    let on = sets::less(known, seen.held);
     keep(before, counters, ceiling);
     let ready = edges::fall(counters, timed, orders, on, a, limit, last);
     // The rising edge.
     let able = edges::firable(on, timed, ready, conditional, index, truths, word);
     let fired = fire::fired(able, lower, rivals, tokens, w, s, takers, low, high);
-    let moved = moves::tally(t, taken, put, fired, heads, next, near, far, index);
-    let at = moved.at;
+    let moved = moves::tally(t, taken, put, fired, held, curbs, heads, next, index);
+    let actions = seen.shown;
     let functions = moved.functions;
-    let over = settle::over(at, ceiling, tokens, taken, put);
+    let over = settle::over(n, ceiling, tokens, taken, put);
     if over < 128 {
         *counters = *before;
         return Outcome {
@@ -105,7 +106,10 @@ pub fn step(
         upto,
         taken,
         put,
-        at,
+        left,
+        marks,
+        moved.lack,
+        eights,
         index,
         curbs,
         w,

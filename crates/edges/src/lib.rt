@@ -141,7 +141,7 @@ pub fn firable(
     while left != 0 {
         let t = sets::lowest(left);
         if !asked(index[448 + t], truths[t], word) {
-            able = sets::without(able, t);
+            able = sets::less(able, sets::single(t));
         }
         left = sets::rest(left);
     }

@@ -7,12 +7,12 @@ use native.Mathlib.Omega.{arith}
 use lib.Dec.{leb, ltb, eqb}
 use lib.ListN.{length, getD, set, replicate, length-replicate, getD-replicate, List·getD-eq-default}
 use lib.Seq.{getD-set-same, getD-set-other}
-use borrow.Author.Tests.{eqb-true, eqb-false, ltb-true, ltb-false, lt-ltb, le-ltb, lt-leb, le-leb, eq-eqb, ne-eqb}
+use borrow.Author.Tests.{eqb-true, eqb-false, ltb-true, ltb-false, lt-ltb, le-ltb, lt-leb, le-leb}
 use Rattle.meaning.specs.Bytes.{bit}
-use Rattle.sets.proofs.Bits.{bit-zero, bits-bit, bits-low, same-set}
+use Rattle.sets.proofs.Bits.{bit-zero, bit-under, bits-bit, bits-low, same-set}
 use Rattle.net.specs.Rows.{cell}
 use Rattle.enabled.specs.declared.Level.{Level}
-use Rattle.enabled.specs.Held.{Curbed, plain, held-by, shown-by, Spans, Levels, Moves-to}
+use Rattle.enabled.specs.Held.{Empty-from, Curbed, plain, held-by, shown-by, Spans, Levels}
 
 -- At most is not above.
 pub at-most : (a b : ℕ) → leb a b ≡ not (ltb b a)
@@ -37,13 +37,14 @@ levelled {tokens} arcs w x k low high is ends t = is t ∙ go (bit arcs t) refl
         met false q = sym (le-ltb k (getD w t 0) (omega (arith, low, ends t e .0 (ltb-false tokens (getD w t 0) q))))
     go false e = refl
 
--- A level begins and ends where the place is empty or is not.
-pub emptied : (tokens from upto k : ℕ) → cond (eqb tokens 0) 0 1 ≤ from → upto ≤ cond (eqb tokens 0) 1 4294967295 → from ≤ k → k < upto → eqb k 0 ≡ eqb tokens 0
-emptied tokens from upto k = go (eqb tokens 0)
+-- An empty place is short of every arc that has a weight.
+pub all-short : (arcs : ℕ) (w : List ℕ) → arcs < 2 ^ 64 → ((t : ℕ) → t < 64 → bit arcs t ≡ true → 1 ≤ getD w t 0)
+    → (t : ℕ) → bit arcs t ≡ (bit arcs t && ltb 0 (getD w t 0))
+all-short arcs w low weighty t = go (bit arcs t) refl
   where
-    go : (b : Bool) → cond b 0 1 ≤ from → upto ≤ cond b 1 4294967295 → from ≤ k → k < upto → eqb k 0 ≡ b
-    go true low high l h = eq-eqb k 0 (omega (arith, high, h))
-    go false low high l h = ne-eqb k 0 (λ e. omega (arith, low, l))
+    go : (b : Bool) → bit arcs t ≡ b → b ≡ (b && ltb 0 (getD w t 0))
+    go true e = sym (lt-ltb 0 (getD w t 0) (omega (arith, weighty t (bit-under arcs t low e) e)))
+    go false e = refl
 
 module _ {index : List ℕ} {s : List (List ℕ)} {curbs : List ℕ} (curbed : Curbed index s curbs) (p : ℕ) (h : p < 128) where
   -- Whoever is short of a weight and has no inhibitor arc, or has one and is not short, is whom the place holds back.
@@ -97,13 +98,19 @@ unfolding held-by
 none-held index w s k p e = same-set _ 0 (bits-low _) (omega arith) (λ t l. bits-bit _ t l ∙ rw (e, bit-zero t))
 
 -- Neither arc nor action: with any number of tokens the place holds nobody back and shows nothing.
-pub none-spans : (index : List ℕ) (w s : List (List ℕ)) (p from upto : ℕ) → getD index (192 + p) 0 ≡ 0 → getD index (576 + p) 0 ≡ 0 → Spans index w s p 0 0 from upto
-none-spans index w s p from upto no-arc no-action =
-    record { holds = λ k l h. sym (none-held index w s k p no-arc); shows = λ k l h. rw no-action (go (eqb k 0)) }
+pub none-spans : (index : List ℕ) (w s : List (List ℕ)) (p from upto : ℕ) → getD index (192 + p) 0 ≡ 0 → getD index (576 + p) 0 ≡ 0 → upto ≤ 2147483647
+    → Spans index w s p 0 0 from upto
+none-spans index w s p from upto no-arc no-action low =
+    record { roof = low; holds = λ k l h. sym (none-held index w s k p no-arc); shows = λ k l h. rw no-action (go (eqb k 0)) }
   where
     go : (b : Bool) → _≡_ {A = ℕ} 0 (cond b 0 0)
     go true = refl
     go false = refl
+
+-- Past a place from which on there is neither an arc nor an action there is none either.
+pub empty-past : {index : List ℕ} {n k : ℕ} → Empty-from index n → n ≤ k → k ≤ 128 → Empty-from index k
+empty-past empty l within =
+    record { within = within; no-arc = λ p h. empty .no-arc p (omega (arith, l, h)); no-action = λ p h. empty .no-action p (omega (arith, l, h)) }
 
 -- What the rows of a place say of its tokens now.
 module _ {index : List ℕ} {w s : List (List ℕ)} {m held shown from upto : List ℕ} (levels : Levels index w s m held shown from upto) (p : ℕ) (h : p < 128) where
@@ -112,25 +119,6 @@ module _ {index : List ℕ} {w s : List (List ℕ)} {m held shown from upto : Li
 
   pub shown-now : getD shown p 0 ≡ shown-by index (getD m p 0) p
   shown-now = levels .spans p h .shows (getD m p 0) (levels .inside p h .0) (levels .inside p h .1)
-
--- The rows of one place move with its tokens.
-pub moved-on : {index : List ℕ} {w s : List (List ℕ)} {m held shown from upto held′ shown′ from′ upto′ : List ℕ} {p k : ℕ}
-    → Levels index w s m held shown from upto → Moves-to index w s p k held shown from upto held′ shown′ from′ upto′ → p < length m
-    → Levels index w s (set m p k) held′ shown′ from′ upto′
-moved-on {index} {w} {s} {m} {held} {shown} {from} {upto} {held′} {shown′} {from′} {upto′} {p} {k} levels moves l =
-    record { sizes = moves .sizes; spans = λ q h. spans q h (eqb q p) refl; inside = λ q h. inside q h (eqb q p) refl }
-  where
-    spans : (q : ℕ) → q < 128 → (b : Bool) → eqb q p ≡ b → Spans index w s q (getD held′ q 0) (getD shown′ q 0) (getD from′ q 0) (getD upto′ q 0)
-    spans q h true e = rw (eqb-true q p e) (moves .spans)
-    spans q h false e =
-        let o = moves .others q (eqb-false q p e) in
-        rw (o .0, o .1, o .2, o .3) (levels .spans q h)
-
-    inside : (q : ℕ) → q < 128 → (b : Bool) → eqb q p ≡ b → (getD from′ q 0 ≤ getD (set m p k) q 0) × (getD (set m p k) q 0 < getD upto′ q 0)
-    inside q h true e = rw (eqb-true q p e, getD-set-same m p k 0 l) (moves .inside)
-    inside q h false e =
-        let o = moves .others q (eqb-false q p e) in
-        rw (o .2, o .3, getD-set-other m p q k 0 (eqb-false q p e)) (levels .inside q h)
 
 -- One more row is written: the rows before have what f says, and the others what g says, of what the view sees of them.
 pub row-on : {A : Type 0} (view : ℕ → A) (f g : ℕ → A) (rows : List ℕ) (p v : ℕ) → p < length rows

@@ -37,8 +37,9 @@ pub record Narrowed (tokens t weight : ℕ) (x y : Level) : Type 0 where
   pub reached : weight ≤ tokens → weight ≤ y .from
   pub missed : tokens < weight → y .upto ≤ weight
 
--- So many tokens are on the level, and with any other number on it the same arcs are short, and the place is empty or is not.
+-- So many tokens are on the level, and with any other number on it the same arcs are short, and the place is empty or is not. It ends below 2^31.
 pub record Level-of (tokens arcs : ℕ) (w : List ℕ) (x : Level) : Type 0 where
+  pub roof : x .upto ≤ 2147483647
   pub inside : (x .from ≤ tokens) × (tokens < x .upto)
   pub empty : (k : ℕ) → x .from ≤ k → k < x .upto → eqb k 0 ≡ eqb tokens 0
   pub short-is : (k : ℕ) → x .from ≤ k → k < x .upto → (t : ℕ) → bit (x .short) t ≡ (bit arcs t && ltb k (getD w t 0))
@@ -51,8 +52,9 @@ held-by index w s k p = bits (λ t. bit (getD index (192 + p) 0) t && cond (eqb 
 abbrev pub shown-by : List ℕ → ℕ → ℕ → ℕ
 shown-by index k p = cond (eqb k 0) 0 (getD index (576 + p) 0)
 
--- With any number of tokens from the one on and below the other, place p holds these back and shows these.
+-- With any number of tokens from the one on and below the other, place p holds these back and shows these. The other is below 2^31.
 pub record Spans (index : List ℕ) (w s : List (List ℕ)) (p held shown from upto : ℕ) : Type 0 where
+  pub roof : upto ≤ 2147483647
   pub holds : (k : ℕ) → from ≤ k → k < upto → held ≡ held-by index w s k p
   pub shows : (k : ℕ) → from ≤ k → k < upto → shown ≡ shown-by index k p
 

@@ -1,13 +1,13 @@
 // Enabled by a marking: whom the tokens of each place hold back and which actions they show, kept place by place.
 ghost use mathlib.Core.Bool.{true, cond, not, _&&_, _||_};
 ghost use mathlib.Core.Path.{_≡_};
-ghost use Prim.Native.Nat.{ℕ, _+_, _≤_, _<_};
+ghost use Prim.Native.Nat.{ℕ, _+_, _*_, _≤_, _<_};
 ghost use lib.Dec.{leb, ltb, eqb};
 ghost use lib.ListN.{length, getD, replicate};
 ghost use Rattle.meaning.specs.Below.{some};
 ghost use Rattle.meaning.specs.Bytes.{bit};
 ghost use Rattle.table.specs.Index.{Reaches};
-ghost use Rattle.enabled.specs.Held.{Empty-from, Curbed, Narrowed, Level-of, Spans, Four, Moves-to, Levels};
+ghost use Rattle.enabled.specs.Held.{Empty-from, Curbed, Weighty, Narrowed, Level-of, Spans, Four, Moves-to, Levels};
 
 // Does an arc of this weight and sort stop its transition, with so many tokens on its place?
 pub fn stops(tokens: u32, weight: u16, sort: u8) -> bool
@@ -27,20 +27,6 @@ pub struct Level {
     pub short: u64,
     pub from: u32,
     pub upto: u32,
-}
-
-// Where a level begins before any arc is asked: a place without a token is a level of its own.
-fn floor(tokens: u32) -> u32
-    ensures { λ r. ⌜ r ≡ cond (eqb tokens 0) 0 1 ⌝ }
-{
-    if tokens == 0 { 0 } else { 1 }
-}
-
-// Where it ends.
-fn roof(tokens: u32) -> u32
-    ensures { λ r. ⌜ r ≡ cond (eqb tokens 0) 1 4294967295 ⌝ }
-{
-    if tokens == 0 { 1 } else { 4294967295 }
 }
 
 // The higher and the lower of two numbers of tokens.
@@ -79,15 +65,24 @@ fn narrowed(x: Level, tokens: u32, t: usize, weight: u16) -> Level
     }
 }
 
-// The level of so many tokens at a place with these arcs.
+// The level of so many tokens at a place with these arcs, each of which has a weight. A place without a token is a level of its own, on which every arc
+// is short.
 pub fn level_of(tokens: u32, arcs: u64, w: &[u16; 64]) -> Level
-    requires { ⌜ tokens < 4294967295 ⌝ }
+    requires { ⌜ tokens < 2147483647 ⌝ }
+    requires { ⌜ ((t : ℕ) → t < 64 → bit arcs t ≡ true → 1 ≤ getD (now w) t 0) ⌝ }
     ensures { λ x. ⌜ Level-of tokens arcs (now (w .entry)) x ⌝ }
 {
+    if tokens == 0 {
+        return Level {
+            short: arcs,
+            from: 0,
+            upto: 1,
+        };
+    }
     let mut x = Level {
         short: 0,
-        from: floor(tokens),
-        upto: roof(tokens),
+        from: 1,
+        upto: 2147483647,
     };
     let mut left = arcs;
     while left != 0 {
@@ -125,8 +120,8 @@ fn relevel(
     from: &mut [u32; 128],
     upto: &mut [u32; 128],
 )
-    requires { ⌜ (p < 128) × (tokens < 4294967295) ⌝ }
-    requires { ⌜ Curbed (now index) (now s) (now curbs) ⌝ }
+    requires { ⌜ (p < 128) × (tokens < 2147483647) ⌝ }
+    requires { ⌜ Curbed (now index) (now s) (now curbs) × Weighty (now index) (now w) ⌝ }
     requires { ⌜ Four (now held) (now shown) (now from) (now upto) ⌝ }
     ensures { λ _. ⌜ Moves-to (now (index .entry)) (now (w .entry)) (now (s .entry)) p tokens (now (held .entry)) (now (shown .entry)) (now (from .entry)) (now (upto .entry)) (now (held .exit)) (now (shown .exit)) (now (from .exit)) (now (upto .exit)) ⌝ }
 {
@@ -151,8 +146,8 @@ pub fn shift(
     from: &mut [u32; 128],
     upto: &mut [u32; 128],
 )
-    requires { ⌜ (p < 128) × (tokens < 4294967295) ⌝ }
-    requires { ⌜ Curbed (now index) (now s) (now curbs) ⌝ }
+    requires { ⌜ (p < 128) × (tokens < 2147483647) ⌝ }
+    requires { ⌜ Curbed (now index) (now s) (now curbs) × Weighty (now index) (now w) ⌝ }
     requires { ⌜ Four (now held) (now shown) (now from) (now upto) ⌝ }
     requires { ⌜ Spans (now index) (now w) (now s) p (getD (now held) p 0) (getD (now shown) p 0) (getD (now from) p 0) (getD (now upto) p 0) ⌝ }
     ensures { λ _. ⌜ Moves-to (now (index .entry)) (now (w .entry)) (now (s .entry)) p tokens (now (held .entry)) (now (shown .entry)) (now (from .entry)) (now (upto .entry)) (now (held .exit)) (now (shown .exit)) (now (from .exit)) (now (upto .exit)) ⌝ }
@@ -175,10 +170,10 @@ pub fn hold(
     from: &mut [u32; 128],
     upto: &mut [u32; 128],
 )
-    requires { ⌜ (now held ≡ replicate 128 0) × (now shown ≡ replicate 128 0) × (now from ≡ replicate 128 0) × (now upto ≡ replicate 128 4294967295) ⌝ }
-    requires { ⌜ Curbed (now index) (now s) (now curbs) ⌝ }
+    requires { ⌜ (now held ≡ replicate 128 0) × (now shown ≡ replicate 128 0) × (now from ≡ replicate 128 0) × (now upto ≡ replicate 128 2147483647) ⌝ }
+    requires { ⌜ Curbed (now index) (now s) (now curbs) × Weighty (now index) (now w) ⌝ }
     requires { ⌜ Empty-from (now index) n ⌝ }
-    requires { ⌜ ((p : ℕ) → p < 128 → getD (now m) p 0 < 4294967295) ⌝ }
+    requires { ⌜ ((p : ℕ) → p < 128 → getD (now m) p 0 < 2147483647) ⌝ }
     ensures { λ _. ⌜ Levels (now (index .entry)) (now (w .entry)) (now (s .entry)) (now (m .entry)) (now (held .exit)) (now (shown .exit)) (now (from .exit)) (now (upto .exit)) ⌝ }
 {
     let mut p = 0;
@@ -188,25 +183,37 @@ pub fn hold(
     }
 }
 
-// All that are in one of the first n rows.
-pub fn all_of(rows: &[u64; 128], n: usize) -> u64
+// What all places together do: whom they hold back, and which actions they show.
+pub struct Seen {
+    pub held: u64,
+    pub shown: u64,
+}
+
+// The same, of the first n places, by their rows.
+pub fn gather(held: &[u64; 128], shown: &[u64; 128], n: usize) -> Seen
     requires { ⌜ n ≤ 128 ⌝ }
-    ensures { λ r. ⌜ ((t : ℕ) → bit r t ≡ some n (λ p. bit (getD (now (rows .entry)) p 0) t)) ⌝ }
+    ensures { λ x. ⌜ ((t : ℕ) → bit (x .held) t ≡ some n (λ p. bit (getD (now (held .entry)) p 0) t)) ⌝ }
+    ensures { λ x. ⌜ ((k : ℕ) → bit (x .shown) k ≡ some n (λ p. bit (getD (now (shown .entry)) p 0) k)) ⌝ }
 {
-    let mut r = 0u64;
+    let mut back = 0u64;
+    let mut active = 0u64;
     let mut p = 0;
     while p < n {
-        r = sets::union(r, rows[p]);
+        back = sets::union(back, held[p]);
+        active = sets::union(active, shown[p]);
         p += 1;
     }
-    r
+    Seen {
+        held: back,
+        shown: active,
+    }
 }
 
 // One more than the highest place with an input arc or an action, 0 if there is none. The index goes no further than `reach`.
 pub fn bound(index: &[u64], reach: usize) -> usize
     requires { ⌜ 768 ≤ length (now index) ⌝ }
     requires { ⌜ Reaches (now index) reach ⌝ }
-    ensures { λ n. ⌜ Empty-from (now (index .entry)) n ⌝ }
+    ensures { λ n. ⌜ Empty-from (now (index .entry)) n × (n ≤ reach) ⌝ }
 {
     let mut n = reach;
     while 0 < n {
@@ -216,6 +223,14 @@ pub fn bound(index: &[u64], reach: usize) -> usize
         n -= 1;
     }
     n
+}
+
+// How many eights it takes to have every number below n.
+pub fn eights(n: usize) -> usize
+    requires { ⌜ n ≤ 128 ⌝ }
+    ensures { λ e. ⌜ (n ≤ 8 * e) × (8 * e ≤ 128) ⌝ }
+{
+    (n + 7) / 8
 }
 
 // s, and k where it passes and is below 64.

@@ -6,7 +6,6 @@ use Prim.Native.Nat.{ℕ, _+_, _*_, _≤_, _<_}
 use native.Mathlib.Omega.{arith}
 use lib.ListN.{getD}
 use borrow.Author.Tests.{le-ltb}
-use Rattle.meaning.specs.Image.{image}
 use Rattle.timing.specs.declared.Intervals.{Intervals}
 use Rattle.image.specs.Records.{Quiet}
 use Rattle.image.proofs.Read.{quiet-is}

@@ -1,16 +1,12 @@
 -- The first record that is wrong is the first place whose record is, and where there is none the first such transition.
-use mathlib.Core.Bool.{Bool, true, false}
+use mathlib.Core.Bool.{Bool, false}
 use mathlib.Core.List.{List}
-use mathlib.Core.Logic.{⊎-elim}
 use mathlib.Core.Path.{_≡_, sym, ap, _∙_}
 use Prim.Native.Nat.{ℕ, _+_, _-_, _≤_, _<_}
-use native.Mathlib.Nat.{eq-or-lt-of-le}
 use native.Mathlib.Omega.{arith}
-use lib.Dec.{ltb}
-use borrow.Author.Tests.{lt-ltb, le-ltb, ltb-true, ltb-false}
+use borrow.Author.Tests.{lt-ltb, le-ltb}
 use Rattle.meaning.specs.Below.{first}
-use Rattle.meaning.proofs.Bool.{either}
-use Rattle.meaning.proofs.Below.{first-le, first-passes, first-before, first-is, first-none, first-same}
+use Rattle.meaning.proofs.Below.{first-passes, first-before, first-is, first-same}
 use Rattle.table.proofs.Firsts.{first-after}
 use Rattle.timing.specs.declared.Intervals.{Intervals}
 use Rattle.image.specs.Fit.{wrong-place-by, wrong-transition-by, wrong-by}

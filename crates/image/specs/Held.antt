@@ -1,5 +1,4 @@
 -- The state that the arrays hold, and what it is to hold a state.
-use mathlib.Core.Bool.{Bool}
 use mathlib.Core.List.{List}
 use mathlib.Core.Path.{_≡_}
 use Prim.Native.Nat.{ℕ, _≤_, _<_}

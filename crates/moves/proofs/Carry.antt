@@ -1,27 +1,31 @@
 -- From cells and tallies to the meaning: each cell of a place is one arc's, so what the members move there, transition by transition, is what their
 -- arcs carry, record by record; and a tally adds up record by record.
-use mathlib.Core.Bool.{Bool, true, false, cond, _&&_}
+use mathlib.Core.Bool.{Bool, true, false, cond, _&&_, and-false}
 use mathlib.Core.List.{List}
+use mathlib.Core.Logic.{⊎-elim}
 use mathlib.Core.Path.{_≡_, refl, sym, ap, _∙_}
 use Prim.Native.Nat.{ℕ, zero, suc, _+_, _≤_, _<_}
 use native.Mathlib.Omega.{arith}
 use lib.Dec.{eqb, ltb}
 use lib.ListN.{getD}
 use borrow.Author.Tests.{eqb-true, eq-eqb, ne-eqb, ltb-true, lt-ltb}
+use Rattle.meaning.specs.Answer.{accepted}
 use Rattle.meaning.specs.Below.{some, sum}
 use Rattle.meaning.specs.Bytes.{bit}
-use Rattle.meaning.specs.Table.{Table, total, is, arc, basic}
+use Rattle.meaning.specs.Defined.{check}
+use Rattle.meaning.specs.Table.{Table, table, total, is, arc, basic}
 use Rattle.meaning.specs.Cycle.{withdrawn, added}
-use Rattle.meaning.proofs.Bool.{not-both, and-left, and-right, and-true}
-use Rattle.meaning.proofs.Below.{some-intro, some-elim, sum-same, sum-zero, sum-add}
+use Rattle.meaning.proofs.Bool.{either, not-both, and-left, and-right, and-true, same-test}
+use Rattle.meaning.proofs.Below.{some-intro, some-elim, none-intro, sum-same, sum-zero, sum-add}
 use Rattle.meaning.proofs.Reflect.{not-true-false}
 use Rattle.meaning.proofs.Sound.{sum-one}
 use Rattle.net.specs.Rows.{Gathered, Weights, latest, cell}
 use Rattle.net.proofs.Carry.{latest-is}
 use Rattle.moves.specs.declared.Moved.{Moved}
 use Rattle.moves.specs.Moves.{moved-at}
-use Rattle.moves.specs.Tallied.{Tallied, moved-by, moved-at-all}
-use Rattle.moves.proofs.Sums.{load-none, load-whole}
+use Rattle.moves.specs.Tallied.{Tallied, moves, moved-by, moved-at-all}
+use Rattle.moves.proofs.Sums.{load-none, load-part, load-whole}
+use Rattle.moves.proofs.Turns.{in-range}
 
 -- A sum of sums, taken the other way.
 sum-swap : (m n : ℕ) (h : ℕ → ℕ → ℕ) → sum m (λ t. sum n (λ r. h r t)) ≡ sum n (λ r. sum m (h r))
@@ -129,7 +133,7 @@ module _ (tb : Table) (arcs : (r : ℕ) → r < tb .records → tb .kind r ≡ 3
       (eqb-true _ _ (x .2) ∙ sym (eqb-true _ _ (y .2))) k)
 
 -- What a tally adds up is what the meaning says: over basic arcs what the set withdraws, over post arcs what it puts.
-module _ (tb : Table) (chosen : ℕ) (index taken put : List ℕ) (x : Moved) (y : Tallied tb chosen index taken put x) where
+module _ (tb : Table) (chosen : ℕ) (held curbs index taken put : List ℕ) (x : Moved) (y : Tallied tb chosen held curbs index taken put x) where
   pub taken-is : (p : ℕ) → p < 128 → getD taken p 0 ≡ withdrawn tb (bit chosen) p
   unfolding withdrawn
   taken-is = y .taken-is
@@ -142,6 +146,37 @@ module _ (tb : Table) (chosen : ℕ) (index taken put : List ℕ) (x : Moved) (y
 pub unmoved : (tb : Table) (sort : ℕ) (F : ℕ → Bool) (p : ℕ) → moved-at-all tb sort F p ≡ false → moved-by tb sort F p ≡ 0
 unfolding total
 unmoved tb sort F p e = load-none tb sort (λ r. F (tb .two r)) p e
+
+-- No arc is at a place past the last that a record names, and nothing is moved there.
+pub none-past : (tb : Table) (n sort : ℕ) (F : ℕ → Bool) (p : ℕ) → ((r : ℕ) → r < tb .records → tb .one r < n) → n ≤ p → moved-by tb sort F p ≡ 0
+none-past tb n sort F p low past =
+    unmoved tb sort F p
+    (none-intro (tb .records) (moves tb sort F p)
+    (λ r h.
+    let near : tb .one r < n = low r h in
+    rw (ne-eqb (tb .one r) p (λ e. omega arith), and-false (arc tb sort r))))
+
+-- In an accepted table each arc has a weight of at least 1, so something is moved just where there is an arc that moves it.
+pub some-moved : (bs : List ℕ) → check bs ≡ accepted 0 → (sort : ℕ) (F : ℕ → Bool) (p : ℕ)
+    → moved-at-all (table bs) sort F p ≡ ltb 0 (moved-by (table bs) sort F p)
+unfolding total
+some-moved bs e sort F p = same-test (moved-at-all (table bs) sort F p) (ltb 0 (moved-by (table bs) sort F p)) there back
+  where
+    there : moved-at-all (table bs) sort F p ≡ true → ltb 0 (moved-by (table bs) sort F p) ≡ true
+    there some-arc =
+        let w = some-elim (table bs .records) (moves (table bs) sort F p) some-arc in
+        let r : ℕ = w .0 in
+        let own = three (arc (table bs) sort r) (eqb (table bs .one r) p) (F (table bs .two r)) (w .2) .0 in
+        lt-ltb 0 (moved-by (table bs) sort F p)
+        (omega (arith, in-range bs e sort r (w .1) own .2, load-part (table bs) sort (λ k. F (table bs .two k)) p r (w .1) (w .2)))
+
+    back : ltb 0 (moved-by (table bs) sort F p) ≡ true → moved-at-all (table bs) sort F p ≡ true
+    back more =
+        ⊎-elim (λ (q : moved-at-all (table bs) sort F p ≡ true). q)
+        (λ (q : moved-at-all (table bs) sort F p ≡ false).
+        let none = unmoved (table bs) sort F p q in
+        absurd (omega (arith, none, ltb-true 0 (moved-by (table bs) sort F p) more)))
+        (either (moved-at-all (table bs) sort F p))
 
 -- What is put at one place is at most what all post arcs weigh.
 pub gain-covers : (tb : Table) (F : ℕ → Bool) (p : ℕ) → moved-by tb 3 F p ≤ total tb (arc tb 3) (tb .four)

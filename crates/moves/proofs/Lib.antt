@@ -3,5 +3,5 @@ pub mod Step
 pub mod Sums
 pub mod Turns
 pub mod Pending
-pub mod Touched
+pub mod Somewhere
 pub mod Carry

@@ -31,7 +31,7 @@ sum-most (suc n) f h = omega (arith, sum-most n f (λ k l. h k (omega arith)), h
 
 module _ (tb : Table) (sort : ℕ) where
   -- Tests that say the same of the arcs have the same sum.
-  same-on : (f g : ℕ → Bool) → ((k : ℕ) → k < tb .records → arc tb sort k ≡ true → f k ≡ g k) → (p k : ℕ) → k < tb .records → on tb sort f p k ≡ on tb sort g p k
+  pub same-on : (f g : ℕ → Bool) → ((k : ℕ) → k < tb .records → arc tb sort k ≡ true → f k ≡ g k) → (p k : ℕ) → k < tb .records → on tb sort f p k ≡ on tb sort g p k
   same-on f g h p k l = go (arc tb sort k) refl
     where
       go : (b : Bool) → arc tb sort k ≡ b → (b && eqb (tb .one k) p && f k) ≡ (b && eqb (tb .one k) p && g k)
@@ -46,8 +46,11 @@ module _ (tb : Table) (sort : ℕ) where
   load-none f p e = sum-zero (tb .records) _ (λ k l. rw (none-elim (tb .records) (on tb sort f p) e k l))
 
   -- A test that passes none.
+  pub any-idle : (f : ℕ → Bool) → ((k : ℕ) → f k ≡ false) → (p : ℕ) → any tb sort f p ≡ false
+  any-idle f none p = none-intro (tb .records) (on tb sort f p) (λ k l. rw (none k) (and-false (arc tb sort k && eqb (tb .one k) p)))
+
   pub load-idle : (f : ℕ → Bool) → ((k : ℕ) → f k ≡ false) → (p : ℕ) → load tb sort f p ≡ 0
-  load-idle f none p = load-none f p (none-intro (tb .records) (on tb sort f p) (λ k l. rw (none k) (and-false (arc tb sort k && eqb (tb .one k) p))))
+  load-idle f none p = load-none f p (any-idle f none p)
 
   -- An arc's weight is part of the sum, and at most 65,535.
   pub load-part : (f : ℕ → Bool) (p k : ℕ) → k < tb .records → on tb sort f p k ≡ true → tb .four k ≤ load tb sort f p

@@ -1,17 +1,16 @@
 // What a set of transitions moves: the tokens at a place, by the place's row; and the tokens at every place, by the transitions' chains of arcs.
-use places::Places;
-ghost use mathlib.Core.Bool.{cond};
+ghost use mathlib.Core.Bool.{cond, _&&_, _||_};
 ghost use mathlib.Core.Path.{_≡_};
-ghost use Prim.Native.Nat.{_≤_, _<_};
+ghost use Prim.Native.Nat.{ℕ, _≤_, _<_};
+ghost use lib.Dec.{eqb};
 ghost use lib.ListN.{getD};
 ghost use Rattle.meaning.specs.Answer.{accepted};
-ghost use Rattle.meaning.specs.Below.{sum};
+ghost use Rattle.meaning.specs.Below.{some, sum};
 ghost use Rattle.meaning.specs.Bytes.{bit};
 ghost use Rattle.meaning.specs.Defined.{check};
 ghost use Rattle.meaning.specs.Table.{table};
-ghost use Rattle.net.specs.Chains.{Touches};
 ghost use Rattle.net.specs.Links.{Chained};
-ghost use Rattle.moves.specs.Tallied.{Room, carried, Fits, Followed, Unmoved, Tallied};
+ghost use Rattle.moves.specs.Tallied.{moved-at-all, lacking, Room, carried, Fits, Followed, Unmoved, Tallied};
 
 // A weight as a number of tokens.
 fn wide(x: u16) -> u32
@@ -76,69 +75,69 @@ fn add_arc(t: &[u8], moved: &mut [u32; 128], r: usize)
 }
 
 // Adds at each place what transition u moves there over its arcs of one sort: `sort` chooses the row of `heads` in which their chain begins, and
-// `next` goes on from arc to arc.
+// `next` goes on from arc to arc. The answer is all, and whom these places hold back without an inhibitor arc.
 fn follow(
     t: &[u8],
     moved: &mut [u32; 128],
+    held: &[u64; 128],
+    curbs: &[u64; 128],
     heads: &[u16; 256],
     next: &[u16; 1024],
     u: usize,
     sort: u8,
-)
+    all: u64,
+) -> u64
     requires { ⌜ check (now t) ≡ accepted 0 ⌝ }
     requires { ⌜ Chained (table (now t)) (now heads) (now next) ⌝ }
     requires { ⌜ (u < 64) × (sort < 4) × Fits (table (now t)) sort u (now moved) ⌝ }
     ensures { λ _. ⌜ Followed (table (now (t .entry))) sort u (now (moved .entry)) (now (moved .exit)) ⌝ }
+    ensures { λ r. ⌜ ((j : ℕ) → bit r j ≡ (bit all j || some 128 (λ p. moved-at-all (table (now (t .entry))) sort (eqb u) p && lacking (now (held .entry)) (now (curbs .entry)) p j))) ⌝ }
 {
+    let mut lack = all;
     let mut link = count(heads[64 * records::wide(sort) + u]);
     while link != 0 {
         let r = link - 1;
+        let p = place(t, r);
         add_arc(t, moved, r);
+        lack = sets::union(lack, sets::less(held[p], curbs[p]));
         link = count(next[r]);
     }
+    lack
 }
 
-// Where a set of transitions moves tokens, and the functions of its members.
+// The functions of a set of transitions, and whom the places from which its members take held back without an inhibitor arc.
 pub struct Moved {
-    pub at: Places,
     pub functions: u64,
+    pub lack: u64,
 }
 
 // Adds up at each place what the members of `set` take there and what they put, over the arcs that `heads` and `next` chain; `taken` and `put`
-// are lent empty. `low` and `high` have the places of each transition's arcs, and row 704 + t of the index has the functions of transition t.
+// are lent empty. Row 704 + t of the index has the functions of transition t.
 pub fn tally(
     t: &[u8],
     taken: &mut [u32; 128],
     put: &mut [u32; 128],
     set: u64,
+    held: &[u64; 128],
+    curbs: &[u64; 128],
     heads: &[u16; 256],
     next: &[u16; 1024],
-    low: &[u64; 64],
-    high: &[u64; 64],
     index: &[u64; 768],
 ) -> Moved
     requires { ⌜ check (now t) ≡ accepted 0 ⌝ }
     requires { ⌜ Chained (table (now t)) (now heads) (now next) ⌝ }
-    requires { ⌜ Touches (table (now t)) (table (now t) .records) (now low) (now high) ⌝ }
     requires { ⌜ Unmoved (now taken) × Unmoved (now put) ⌝ }
-    ensures { λ x. ⌜ Tallied (table (now (t .entry))) set (now (index .entry)) (now (taken .exit)) (now (put .exit)) x ⌝ }
+    ensures { λ x. ⌜ Tallied (table (now (t .entry))) set (now (held .entry)) (now (curbs .entry)) (now (index .entry)) (now (taken .exit)) (now (put .exit)) x ⌝ }
 {
-    let mut at = Places { low: 0, high: 0 };
     let mut functions = 0u64;
+    let mut lack = 0u64;
     let mut left = set;
     while left != 0 {
         let u = sets::lowest(left);
         left = sets::rest(left);
-        let near = low[u];
-        let far = high[u];
-        let own = Places {
-            low: near,
-            high: far,
-        };
-        at = places::union(at, own);
         functions = sets::union(functions, index[704 + u]);
-        follow(t, taken, heads, next, u, 0);
-        follow(t, put, heads, next, u, 3);
+        lack = follow(t, taken, held, curbs, heads, next, u, 0, lack);
+        follow(t, put, held, curbs, heads, next, u, 3, 0);
     }
-    Moved { at, functions }
+    Moved { functions, lack }
 }

@@ -1,5 +1,5 @@
--- The last of the records that pass a test, as a link; and the places of the arcs between which and each transition they stand.
-use mathlib.Core.Bool.{Bool, cond, _&&_, _||_}
+-- The last of the records that pass a test, as a link; and the places that the arcs of each transition reach.
+use mathlib.Core.Bool.{Bool, cond, _&&_}
 use mathlib.Core.List.{List}
 use Prim.Native.Nat.{ℕ, zero, suc, _+_}
 use lib.Dec.{eqb, ltb}
@@ -24,20 +24,10 @@ pub record Reached (tb : Table) (of : ℕ → Bool) (n : ℕ) (low high : List �
   pub low-is : Grown 64 n (between tb of) low
   pub high-is : Grown 64 n (λ t p. between tb of t (64 + p)) high
 
--- Record r is a basic or post arc; an input arc.
-abbrev pub moving : Table → ℕ → Bool
-moving tb r = arc tb 0 r || arc tb 3 r
-
+-- Record r is an input arc.
 abbrev pub asking : Table → ℕ → Bool
 asking tb r = is tb 3 r && ltb (tb .sort r) 3
 
--- Record r is a basic or post arc of transition t at place p.
-abbrev pub touches : Table → ℕ → ℕ → ℕ → Bool
-touches tb t p r = between tb (moving tb) t p r
-
--- The places at which each transition takes or puts over the first n records; those from which its input arcs come.
-abbrev pub Touches : Table → ℕ → List ℕ → List ℕ → Type 0
-Touches tb n low high = Reached tb (moving tb) n low high
-
+-- The places from which the input arcs of each transition come, over the first n records.
 abbrev pub Enters : Table → ℕ → List ℕ → List ℕ → Type 0
 Enters tb n low high = Reached tb (asking tb) n low high

@@ -9,7 +9,7 @@ ghost use Rattle.meaning.specs.Defined.{check};
 ghost use Rattle.meaning.specs.Table.{Table, table, total, arc};
 ghost use Rattle.net.specs.Rows.{Gathered, input, Weights, Sorts};
 ghost use Rattle.net.specs.Grow.{names, Grown, Kept};
-ghost use Rattle.net.specs.Chains.{between, Reached, Touches, Enters};
+ghost use Rattle.net.specs.Chains.{between, Reached, Enters};
 
 // An input arc from place p to transition t leaves its weight and its sort there.
 fn keep(w: &mut [[u16; 64]; 128], s: &mut [[u8; 64]; 128], p: usize, t: usize, four: u16, sort: u8)
@@ -43,8 +43,7 @@ fn curb(curbs: &mut [u64; 128], p: usize, t: usize, sort: u8)
 }
 
 // Lays out the arcs. `w` and `s` get the weights and the sorts of the input arcs, place by transition, and `curbs` for each place who has an inhibitor arc
-// from it. `low` and `high` get the places of each transition's input arcs, as `touch` keeps them, and `near` and `far` those of its basic and post arcs.
-// All are lent empty. The answer is the weight of all post arcs together.
+// from it. `low` and `high` get the places of each transition's input arcs, as `touch` keeps them. All are lent empty. The answer is the weight of all post arcs together.
 pub fn lay_arcs(
     t: &[u8],
     w: &mut [[u16; 64]; 128],
@@ -52,16 +51,13 @@ pub fn lay_arcs(
     curbs: &mut [u64; 128],
     low: &mut [u64; 64],
     high: &mut [u64; 64],
-    near: &mut [u64; 64],
-    far: &mut [u64; 64],
 ) -> u32
     requires { ⌜ check (now t) ≡ accepted 0 ⌝ }
     requires { ⌜ (now w ≡ replicate 128 (replicate 64 0)) × (now s ≡ replicate 128 (replicate 64 0)) × (now curbs ≡ replicate 128 0) ⌝ }
-    requires { ⌜ (now low ≡ replicate 64 0) × (now high ≡ replicate 64 0) × (now near ≡ replicate 64 0) × (now far ≡ replicate 64 0) ⌝ }
+    requires { ⌜ (now low ≡ replicate 64 0) × (now high ≡ replicate 64 0) ⌝ }
     ensures { λ _. ⌜ Weights (table (now (t .entry))) (now (w .exit)) × Sorts (table (now (t .entry))) (now (s .exit)) ⌝ }
     ensures { λ _. ⌜ Gathered (table (now (t .entry))) 3 2 (now (curbs .exit)) ⌝ }
     ensures { λ _. ⌜ Enters (table (now (t .entry))) (table (now (t .entry)) .records) (now (low .exit)) (now (high .exit)) ⌝ }
-    ensures { λ _. ⌜ Touches (table (now (t .entry))) (table (now (t .entry)) .records) (now (near .exit)) (now (far .exit)) ⌝ }
     ensures { λ r. ⌜ (r ≡ total (table (now (t .entry))) (arc (table (now (t .entry))) 3) (table (now (t .entry)) .four)) × (r ≤ 67107840) ⌝ }
 {
     let n = t.len() / 8;
@@ -73,16 +69,11 @@ pub fn lay_arcs(
         let two = records::wide(x.two);
         if x.kind == 3 {
             if x.sort == 3 {
-                touch(near, far, two, one);
                 gain += x.four as u32;
             } else {
                 keep(w, s, one, two, x.four, x.sort);
                 touch(low, high, two, one);
-                if x.sort == 0 {
-                    touch(near, far, two, one);
-                } else {
-                    curb(curbs, one, two, x.sort);
-                }
+                curb(curbs, one, two, x.sort);
             }
         }
         r += 1;

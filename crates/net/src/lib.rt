@@ -12,7 +12,7 @@ ghost use Rattle.meaning.specs.Bytes.{bit};
 ghost use Rattle.meaning.specs.Defined.{inhibited};
 ghost use Rattle.meaning.specs.Table.{Table, table};
 ghost use Rattle.records.specs.Record.{Reads, kind-rows};
-ghost use Rattle.table.specs.Index.{plain-blocks, Scanned};
+ghost use Rattle.table.specs.Index.{plain-blocks, arc-blocks, Scanned};
 ghost use Rattle.net.specs.Rows.{Blank-from, Conflicts};
 ghost use Rattle.net.specs.Links.{Chained};
 ghost use Rattle.net.specs.Pass.{Blank, Entered, Kept-in, kept, Arcs, Others};
@@ -124,12 +124,13 @@ fn keep_arc(
     r: usize,
     x: Rec,
     row: &[u16; 5],
+    arcs: &[usize; 4],
     rows: &mut [u64; 768],
     takers: &mut [u64; 128],
     heads: &mut [u16; 256],
     next: &mut [u16; 1024],
 ) -> u8
-    requires { ⌜ (r < 1024) × (x .kind ≡ 3) × (now row ≡ getD kind-rows 2 []) ⌝ }
+    requires { ⌜ (r < 1024) × (x .kind ≡ 3) × (now row ≡ getD kind-rows 2 []) × (now arcs ≡ arc-blocks) ⌝ }
     ensures { λ f. ⌜ Kept-in (now (rows .entry)) x f (now (rows .exit)) ⌝ }
     ensures { λ f. ⌜ ((tb : Table) → Reads tb r x → Arcs tb r (now (takers .entry)) (now (heads .entry)) (now (next .entry)) → Arcs tb (r + kept f) (now (takers .exit)) (now (heads .exit)) (now (next .exit))) ⌝ }
 {
@@ -140,7 +141,7 @@ fn keep_arc(
     }
     let one = records::wide(x.one);
     let two = records::wide(x.two);
-    if enter(rows, table::arc_row(one, sort), two) {
+    if enter(rows, table::arc_row(one, sort, arcs), two) {
         return 4;
     }
     chain(heads, next, 64 * records::wide(sort) + two, r);
@@ -213,12 +214,13 @@ pub fn scan(
     let n = t.len() / 8;
     let kinds = records::kinds();
     let blocks = table::blocks();
+    let arcs = table::arc_blocks();
     let mut top = 0;
     let mut r = 0;
     while r < n {
         let x = records::read(t, r);
         let f = if x.kind == 3 {
-            keep_arc(r, x, &kinds[2], rows, takers, heads, next)
+            keep_arc(r, x, &kinds[2], &arcs, rows, takers, heads, next)
         } else {
             keep_other(x, &kinds, &blocks, rows, truths, sorts, a, b)
         };

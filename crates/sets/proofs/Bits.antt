@@ -217,14 +217,6 @@ bit-apart a b (suc j) = bit-high (a - bitAnd a b) j ∙ rw (bit-high a j, bit-hi
     half : (a - bitAnd a b) / 2 ≡ a / 2 - bitAnd (a / 2) (b / 2)
     half = omega (arith, and-step a b, and-le-l (a / 2) (b / 2), min-le-left (a % 2) (b % 2))
 
--- What lacks k has the rest already.
-pub bit-lacks : (k a j : ℕ) → bit a k ≡ false → bit a j ≡ (bit a j && not (eqb k j))
-bit-lacks k a j e = go (eqb k j) refl
-  where
-    go : (t : Bool) → eqb k j ≡ t → bit a j ≡ (bit a j && not t)
-    go true q = ap (bit a) (sym (eqb-true k j q)) ∙ e ∙ sym (and-false (bit a j))
-    go false q = sym (and-true (bit a j))
-
 -- The zeros below the lowest number of a set end at that number.
 zeros-before : (n a j : ℕ) → j < trailingZeros n a → bit a j ≡ false
 unfolding trailingZeros

@@ -44,13 +44,6 @@ pub fn meet(s: u64, t: u64) -> bool
     s & t != 0
 }
 
-// s less k.
-pub fn without(s: u64, k: usize) -> u64
-    ensures { λ r. ⌜ ((j : ℕ) → bit r j ≡ (bit s j && not (eqb k j))) ⌝ }
-{
-    if has(s, k) { s - (1 << k) } else { s }
-}
-
 // s less all that is in t.
 pub fn less(s: u64, t: u64) -> u64
     ensures { λ r. ⌜ ((j : ℕ) → bit r j ≡ (bit s j && not (bit t j))) ⌝ }

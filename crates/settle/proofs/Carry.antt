@@ -1,7 +1,7 @@
--- A transition is starved by the cells of its input arcs exactly if it is by the table: places from which nothing is taken starve nobody.
+-- A transition is starved by the cells of its input arcs exactly if it is by the table: each input arc is one cell.
 use mathlib.Core.Bool.{Bool, true, false, not, _&&_, _||_, Bool·beq, and-false}
 use mathlib.Core.List.{List}
-use mathlib.Core.Path.{_≡_, refl, sym, _∙_}
+use mathlib.Core.Path.{_≡_, refl, _∙_}
 use mathlib.Core.Logic.{⊎-elim}
 use Prim.Native.Nat.{ℕ, _+_, _-_, _≤_, _<_}
 use native.Mathlib.Omega.{arith}
@@ -14,8 +14,6 @@ use Rattle.meaning.specs.Table.{Table, is, basic, test}
 use Rattle.meaning.specs.Cycle.{withdrawn, starved}
 use Rattle.meaning.proofs.Bool.{and-left, and-right, or-cases}
 use Rattle.meaning.proofs.Below.{every-elim, some-same}
-use Rattle.places.specs.declared.Places.{Places}
-use Rattle.places.specs.Set.{has}
 use Rattle.net.specs.Rows.{Weights, Sorts, cell}
 use Rattle.table.proofs.Carry.{Clean}
 use Rattle.table.proofs.Rows.{beq-true}
@@ -35,12 +33,11 @@ module _ (tb : Table) (w s : List (List ℕ)) (index : List ℕ) (x : Inputs) (g
     (arcs : (r : ℕ) → r < tb .records → tb .kind r ≡ 3 → (tb .one r < 128) × (tb .two r < 64) × (1 ≤ tb .four r) × (tb .sort r ≤ 3))
     (single : (r q : ℕ) → r < tb .records → q < tb .records → tb .kind r ≡ 3 → tb .kind q ≡ 3 → tb .sort r < 3 → tb .sort q < 3
     → tb .one r ≡ tb .one q → tb .two r ≡ tb .two q → r ≡ q) (t : ℕ) (ht : t < 64) where
-  pub starves-same : (m taken curbs : List ℕ) (at : Places) (r : ℕ) → Curbed index s curbs → Starves m at taken index curbs w r
-      → (F : ℕ → Bool) → ((p : ℕ) → p < 128 → getD taken p 0 ≡ withdrawn tb F p) → ((p : ℕ) → p < 128 → has at p ≡ false → getD taken p 0 ≡ 0)
-      → bit r t ≡ starved tb (λ p. getD m p 0) F t
+  pub starves-same : (m taken curbs : List ℕ) (r : ℕ) → Curbed index s curbs → Starves m taken index curbs w r
+      → (F : ℕ → Bool) → ((p : ℕ) → p < 128 → getD taken p 0 ≡ withdrawn tb F p) → bit r t ≡ starved tb (λ p. getD m p 0) F t
   unfolding starved
-  starves-same m taken curbs at r curbed starves F out none =
-      starves .holds t ht ∙ some-same 128 _ _ (λ p h. near p h (has at p) refl)
+  starves-same m taken curbs r curbed starves F out =
+      starves .holds t ht ∙ some-same 128 _ _ near
       ∙ by-arc tb w s index x gw gs clean gx arcs single t ht by-cell by-table same is-arc
     where
       less : ℕ → Bool
@@ -49,11 +46,10 @@ module _ (tb : Table) (w s : List (List ℕ)) (index : List ℕ) (x : Inputs) (g
       by-cell : ℕ → Bool
       by-cell p = not (eqb (cell s p t) 2) && less p
 
-      -- Only places where something is taken count.
-      near : (p : ℕ) → p < 128 → (b : Bool) → has at p ≡ b
-          → (b && (ltb 0 (getD taken p 0) && (plain index curbs p t && ltb (getD m p 0 - getD taken p 0) (cell w p t))))
+      near : (p : ℕ) → p < 128
+          → (ltb 0 (getD taken p 0) && (plain index curbs p t && ltb (getD m p 0 - getD taken p 0) (cell w p t)))
           ≡ (in-words (getD (x .low) t 0) (getD (x .high) t 0) p && by-cell p)
-      near p h true e =
+      near p h =
           rw (plain-is curbed p h t ht, in-row tb w s index x gw gs clean gx arcs single t ht p h)
           (swap (bit (getD index (192 + p) 0) t) (not (eqb (cell s p t) 2)) (ltb 0 (getD taken p 0)) _)
         where
@@ -61,12 +57,6 @@ module _ (tb : Table) (w s : List (List ℕ)) (index : List ℕ) (x : Inputs) (g
           swap true true c d = refl
           swap true false c d = and-false c
           swap false b c d = and-false c
-      near p h false e = sym (rw (none p h e) (dead (in-words (getD (x .low) t 0) (getD (x .high) t 0) p) (not (eqb (cell s p t) 2))))
-        where
-          dead : (a b : Bool) → (a && (b && false)) ≡ false
-          dead true true = refl
-          dead true false = refl
-          dead false b = refl
 
       by-table : ℕ → Bool
       by-table r =

@@ -27,7 +27,7 @@ use Rattle.table.proofs.Firsts.{arc-bit}
 -- ON TESTS
 
 -- Some of n passes one test or some passes the other.
-some-or : (n : ℕ) (p q : ℕ → Bool) → (some n p || some n q) ≡ some n (λ k. p k || q k)
+pub some-or : (n : ℕ) (p q : ℕ → Bool) → (some n p || some n q) ≡ some n (λ k. p k || q k)
 unfolding some
 some-or zero p q = refl
 some-or (suc n) p q = cross (some n p) (p n) (some n q) (q n) ∙ rw (some-or n p q)

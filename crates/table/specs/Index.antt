@@ -16,6 +16,10 @@ use Rattle.table.specs.declared.Pass.{Pass}
 abbrev pub plain-blocks : List ℕ
 plain-blocks = 0 ∷ 0 ∷ 128 ∷ 192 ∷ 448 ∷ 512 ∷ 576 ∷ 704 ∷ []
 
+-- The first row of the arcs of each sort.
+abbrev pub arc-blocks : List ℕ
+arc-blocks = 192 ∷ 192 ∷ 192 ∷ 320 ∷ []
+
 -- The first row of a kind's block.
 unfoldable pub block : ℕ → ℕ → ℕ
 block kind sort = getD (0 ∷ 0 ∷ 128 ∷ cond (eqb sort 3) 320 192 ∷ 448 ∷ 512 ∷ 576 ∷ 704 ∷ []) kind 0

@@ -8,7 +8,7 @@ ghost use lib.ListN.{getD};
 ghost use Rattle.meaning.specs.Below.{some, first};
 ghost use Rattle.meaning.specs.Bytes.{bit};
 ghost use Rattle.meaning.specs.Table.{table};
-ghost use Rattle.table.specs.Index.{plain-blocks, block, row-of, larger-of, Clean, Reaches, transitions-below, has-transition, names-unknown, names-unknown-at, Places-sound, Sound, none-of, lone};
+ghost use Rattle.table.specs.Index.{plain-blocks, arc-blocks, block, row-of, larger-of, Clean, Reaches, transitions-below, has-transition, names-unknown, names-unknown-at, Places-sound, Sound, none-of, lone};
 
 // The first row of each kind's block: places, transitions, input arcs, conditions, priorities, actions, functions. Row 320 begins the post arcs.
 const BLOCK: [usize; 8] = [0, 0, 128, 192, 448, 512, 576, 704];
@@ -50,12 +50,23 @@ pub fn row(x: Rec, blocks: &[usize; 8]) -> usize
     start(kind, x.sort, blocks) + records::wide(x.one)
 }
 
-// The row of the index for an arc at place `one`: post arcs have their own block.
-pub fn arc_row(one: usize, sort: u8) -> usize
-    requires { ⌜ one < 128 ⌝ }
+// The first row of the arcs of each sort.
+const ARCS: [usize; 4] = [192, 192, 192, 320];
+
+// The same, made once for all records of a table.
+pub fn arc_blocks() -> [usize; 4]
+    ensures { λ r. ⌜ r ≡ arc-blocks ⌝ }
+{
+    ARCS
+}
+
+// The row of the index for an arc of this sort at place `one`.
+pub fn arc_row(one: usize, sort: u8, arcs: &[usize; 4]) -> usize
+    requires { ⌜ (one < 128) × (sort < 4) × (now arcs ≡ arc-blocks) ⌝ }
     ensures { λ r. ⌜ r ≡ block 3 sort + one ⌝ }
 {
-    if sort == 3 { 320 + one } else { 192 + one }
+    let k = records::wide(sort);
+    arcs[k] + one
 }
 
 // The larger of two numbers.

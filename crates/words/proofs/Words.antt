@@ -1,5 +1,5 @@
 -- The words of a list of bytes by index: word i is spelled by the eight bytes from 8i on.
-use mathlib.Core.List.{List, [], _∷_}
+use mathlib.Core.List.{List, _∷_}
 use mathlib.Core.Path.{_≡_, refl, ap, _∙_}
 use Prim.Native.Nat.{ℕ, zero, suc, _+_, _*_, _≤_, _<_}
 use native.Mathlib.Nat.{not-suc-le-zero, le-of-suc-le-suc}
@@ -27,7 +27,7 @@ words-from (suc n) (suc i) ws h =
     ∙ ap (λ (l : List ℕ). number (take 8 l) ∷ drop (suc i) (words-of n (drop 8 ws))) (drop-drop (8 * i) 8 ws ∙ ap (λ (k : ℕ). drop k ws) past)
 
 -- The bytes from one on spell it and 256 times what those from the next on spell.
-spell : (n : ℕ) (bs : List ℕ) (at next : ℕ) → next ≡ suc at → at < length bs
+pub spell : (n : ℕ) (bs : List ℕ) (at next : ℕ) → next ≡ suc at → at < length bs
     → number (take (suc n) (drop at bs)) ≡ getD bs at 0 + 256 * number (take n (drop next bs))
 unfolding number
 spell n bs at next e h = rw (e, drop-cons bs at 0 h)

@@ -1,7 +1,6 @@
 -- Wrong engines of run that no edit of the code's own shape gives: on a named input run's statement refuses what such an engine answers or leaves.
-use mathlib.Core.Bool.{Bool}
-use mathlib.Core.List.{List, [], _∷_, _++_}
-use mathlib.Core.Path.{_≡_, refl, sym, ap, _∙_}
+use mathlib.Core.List.{List, _++_}
+use mathlib.Core.Path.{_≡_, refl, ap}
 use Prim.Native.Nat.{ℕ, _*_}
 use native.Mathlib.Omega.{arith}
 use lib.ListN.{replicate, getD}
@@ -13,7 +12,7 @@ use Rattle.meaning.specs.Priority.{through, above}
 use Rattle.meaning.specs.Defined.{bad-length, bad-kind, interval, bad-field, same, twice, fault, faulty, names-place, names-transition, names-second, unknown, empty, arc-at-place, arc-at-transition, isolated, circle, some-two, conflict, complementary, inhibited, settled, unsettled, clashes, table-checks}
 use Rattle.meaning.specs.Image.{state, join, image, image-bytes, fresh, wrong-place, most, most-order, wrong-transition, wrong, state-checks}
 use Rattle.meaning.specs.Cycle.{stops, enabled, active, risen, counted, falling, as-wanted, in-time, firable, withdrawn, added, residual, rule, rounds, fired, marked, executed, starved, reset, rising, record-of, cycle, overfull}
-use Rattle.meaning.specs.Calls.{words-of, word-checks, run-checks, trace, Run, run}
+use Rattle.meaning.specs.Calls.{words-of, word-checks, run-checks, trace, run}
 use Rattle.meaning.specs.Promise.{Ran}
 use Rattle.meaning.specs.Nets.{N-unsettled, N, net6, net7, net9, put-back, two-full}
 use Rattle.meaning.specs.Nets as net

@@ -11,26 +11,24 @@ use Rattle.course.proofs.course.Tie as tie
 
 lay-arcs-requires : tie.Need-lay-arcs-requires
 lay-arcs-requires c κs =
-    let pre = c .before .before .before .before .before .before .before .before .before .before .before .pre in
-    (pre .0 .sound, ((pre .1 .0, pre .1 .1 .0, refl), (refl, refl, refl, refl)))
+    let pre = c .before .before .before .before .before .before .before .before .before .pre in
+    (pre .0 .sound, ((pre .1 .0, pre .1 .1 .0, refl), (refl, refl)))
 
 transitions-requires : tie.Need-transitions-requires
 transitions-requires c κs = search needs
 
 -- The way back: from the cycles to the limits, from there to the bound, to where the transitions below the reach are counted, and to the start.
 abbrev begun : tie.After-transitions → tie.Start
-begun c = c .before .before .before .before .before .before .before .before .before .before .before .before .before
+begun c = c .before .before .before .before .before .before .before .before .before .before .before
 
 abbrev counted : tie.After-bound → tie.After-transitions
 counted c = c .before .before .before .before .before .before
 
 abbrev bounded : tie.After-limits → tie.After-bound
-bounded c = c .before .before .before .before .before .before .before .before .before .before .before .before .before
+bounded c = c .before .before .before .before .before .before .before .before .before .before .before .before .before .before
 
-abbrev limited : tie.After-far2 → tie.After-limits
-limited c =
-    let lent = c .before .before .before .before .before .before .before .before in
-    lent .before .before .before .before .before .before .before .before .before
+abbrev limited : tie.After-curbs2 → tie.After-limits
+limited c = c .before .before .before .before .before .before .before .before .before .before .before .before .before .before .before
 
 rivals-requires : tie.Need-rivals-requires
 rivals-requires c κs =
@@ -40,25 +38,28 @@ rivals-requires c κs =
 bound-requires : tie.Need-bound-requires
 bound-requires c κs = (search needs, begun (c .before .before .before .before .before) .pre .0 .reaches)
 
+eights-requires : tie.Need-eights-requires
+eights-requires c κs = begun (counted c) .pre .0 .reaches .most
+
 known-requires : tie.Need-known-requires
-known-requires c κs = begun (counted c) .pre .0 .reaches
+known-requires c κs = begun (counted (c .before)) .pre .0 .reaches
 
 timed-requires : tie.Need-timed-requires
 timed-requires c κs =
-    let fewer = counted (c .before) .transitions .ensures in
-    let start = begun (counted (c .before)) in
+    let fewer = counted (c .before .before) .transitions .ensures in
+    let start = begun (counted (c .before .before)) in
     (omega (arith, fewer, few-transitions (start .args .reach)), λ t l h. timeless (start .pre .0) _ fewer t l h .0)
 
 conditional-requires : tie.Need-conditional-requires
 conditional-requires c κs =
-    let bound = c .before .before .before in
+    let bound = c .before .before .before .before in
     let fewer = counted bound .transitions .ensures in
     let start = begun (counted bound) in
     ((search needs, omega (arith, fewer, few-transitions (start .args .reach))), unasked (start .pre .0) _ fewer)
 
 limits-requires : tie.Need-limits-requires
 limits-requires c κs =
-    let bound = c .before .before .before .before .before .before .before .before .before .before .before .before in
+    let bound = c .before .before .before .before .before .before .before .before .before .before .before .before .before in
     let fewer = counted bound .transitions .ensures in
     let start = begun (counted bound) in
     ((refl, refl, omega (arith, fewer, few-transitions (start .args .reach))), timeless (start .pre .0) _ fewer)
@@ -68,18 +69,22 @@ cycles-requires c κs =
     let asked = limited c .before .before .before .before .before .before .before .before .before in
     let timed = asked .before .before in
     let known = timed .before in
-    let bound = known .before in
+    let eights = known .before in
+    let bound = eights .before in
     let rivals = bound .before .before in
     let fewer = rivals .before .before .before .before in
     let arcs = fewer .before .lay-arcs .ensures in
     let given = begun fewer .pre in (
-      net-of (given .0) _ (known .known .ensures) _ (timed .timed .ensures) _ (asked .conditional .ensures) _ (bound .bound .ensures)
-          _ _ (limited c .limits .ensures) _ _ (arcs .1 .1 .0) _ _ (rivals .rivals2 .ensures) _ _ (arcs .0 .0) (arcs .0 .1) _ (arcs .1 .0) _ _ (arcs .1 .1 .1 .0),
+      net-of (given .0) _ (known .known .ensures) _ (timed .timed .ensures) _ (asked .conditional .ensures) _ (bound .bound .ensures) _ (eights .eights .ensures)
+          _ _ (limited c .limits .ensures) _ _ (arcs .1 .1 .0) _ _ (rivals .rivals2 .ensures) _ _ (arcs .0 .0) (arcs .0 .1) _ (arcs .1 .0),
       (
-        arcs .1 .1 .1 .1 .0,
+        bound .bound .ensures .0,
         (
-          arcs .1 .1 .1 .1 .1,
-          (record { places = length-replicate {A = ℕ} 128 0; transitions = length-replicate {A = ℕ} 64 0 }, given .1 .1 .1),
+          arcs .1 .1 .1 .0,
+          (
+            arcs .1 .1 .1 .1,
+            (record { places = length-replicate {A = ℕ} 128 0; transitions = length-replicate {A = ℕ} 64 0 }, given .1 .1 .1),
+          ),
         ),
       ),
     )
@@ -109,6 +114,7 @@ course-spec =
     transitions-requires
     rivals-requires
     bound-requires
+    eights-requires
     known-requires
     timed-requires
     conditional-requires

@@ -1,8 +1,7 @@
 -- What two numbers have together and what either has make up their sum, so either has no less than each.
-use mathlib.Core.Path.{_≡_, sym}
-use Prim.Native.Nat.{ℕ, _+_, _^_, _≤_, _<_}
+use Prim.Native.Nat.{ℕ, _^_, _≤_, _<_}
 use native.Mathlib.Omega.{arith}
-use lib.Bits.{bitOr, bitAnd, or-add-and, or-comm, or-lt, and-le-l}
+use lib.Bits.{bitOr, or-add-and, or-comm, or-lt, and-le-l}
 use Rattle.course.proofs.joined.Statement.{statement}
 use Rattle.course.proofs.joined.Tie as tie
 

@@ -1,5 +1,4 @@
 -- `keep` meets its contract: with no cycle finished nothing is written, else all of the image is.
-use mathlib.Core.Path.{sym, _∙_}
 use borrow.Author.Needs.{needs}
 use borrow.Author.Tests.{eq-eqb, ne-eqb}
 use Rattle.course.proofs.keep.Statement.{statement}

@@ -9,41 +9,58 @@ use Rattle.meaning.specs.Bytes.{bit}
 use Rattle.sets.proofs.Bits.{bit-and}
 use Rattle.fire.proofs.Carry.{no-rivals}
 use Rattle.edges.proofs.Sorts.{falls-is, firable-is}
-use Rattle.cycle.proofs.Whole.{ranks, wanted-looked, weighty, Told, low-enough, crowded, only-crowded, bursts, stepped, poised, topped-still}
+use Rattle.cycle.proofs.Whole.{ranks, wanted-looked, weighty, Told, paid, still, lacks, low-enough, crowded, only-crowded, bursts, stepped, poised, topped-still}
 use Rattle.cycle.proofs.step.Statement.{statement}
 use Rattle.cycle.proofs.step.Tie as tie
 
-all-of-requires : tie.Need-all-of-requires
-all-of-requires c κs = c .before .before .pre .0 .within .within
+-- The way back: from the settling to the overfull place, from there to the tally, to the falling edge, to what the places do, and to the start.
+abbrev begun : tie.After-gather → tie.Start
+begun c = c .before .before .before .before
+
+abbrev seen : tie.After-fall → tie.After-gather
+seen c = c .before .before .before .before .before .before
+
+abbrev fallen : tie.After-tally → tie.After-fall
+fallen c = c .before .before .before .before .before .before .before
+
+abbrev tallied : tie.After-over → tie.After-tally
+tallied c = c .before .before .before .before
+
+abbrev judged : tie.After-settle → tie.After-over
+judged c = c .before .before .before .before .before .before .before .before .before .before .before
+
+abbrev start : tie.After-tally → tie.Start
+start c = begun (seen (fallen c))
+
+mul-n : tie.Need-mul-n
+mul-n c = omega (arith, c .before .pre .0 .within .within)
+
+gather-requires : tie.Need-gather-requires
+gather-requires c κs = c .before .before .before .pre .0 .within .within
 
 less-requires : tie.Need-less-requires
 less-requires c κs = search needs
-
-all-of-requires-2 : tie.Need-all-of-requires-2
-all-of-requires-2 c κs = c .before .before .before .before .before .pre .0 .within .within
 
 keep-requires : tie.Need-keep-requires
 keep-requires c κs = search needs
 
 fall-requires : tie.Need-fall-requires
-fall-requires c κs = c .before .before .before .before .before .before .before .before .before .before .pre .1 .1 .0 .transitions
+fall-requires c κs = begun (c .before .before .before .before .before) .pre .1 .1 .0 .transitions
 
 firable-requires : tie.Need-firable-requires
 firable-requires c κs =
-    let net = c .before .before .before .before .before .before .before .before .before .before .before .pre .0 in
+    let net = begun (seen c) .pre .0 in
     (net .conditional-is, wanted-looked net)
 
 fired-requires : tie.Need-fired-requires
 fired-requires c κs =
-    let net = c .before .before .before .before .before .before .before .before .before .before .before .before .before .pre .0 in
+    let net = begun (seen (c .before .before)) .pre .0 in
     (ranks net, no-rivals (net .rivals-are))
 
 tally-requires : tie.Need-tally-requires
 tally-requires c κs =
-    let start = c .before .before .before .before .before .before .before .before .before .before .before .before .before .before .before .before in
-    let net = start .pre .0 in
-    let poised = start .pre .1 .1 .1 .0 in
-    (net .sound, (net .chains, (net .touching, (poised .none-taken, poised .none-put))))
+    let pre = begun (seen (c .before .before .before .before .before .before)) .pre in
+    (pre .0 .sound, (pre .0 .chains, (pre .1 .1 .1 .0 .none-taken, pre .1 .1 .1 .0 .none-put)))
 
 -- The fired set and the functions are one word each, and so are the actions.
 fired-low : (c : tie.After-fired) → c .fired .result < 2 ^ 64
@@ -52,62 +69,76 @@ fired-low c = omega arith
 functions-low : (c : tie.After-tally) → c .tally .result .functions < 2 ^ 64
 functions-low c = omega arith
 
-actions-low : (c : tie.After-all-of2) → c .all-of2 .result < 2 ^ 64
+actions-low : (c : tie.After-gather) → c .gather .result .shown < 2 ^ 64
 actions-low c = omega arith
 
 -- What the parts have told.
 told : (c : tie.After-tally)
-    → Told (c .before .before .before .before .before .before .before .before .before .before .before .before .before .before .before .before .before .pre .0)
-    (record { tokens = c .before .before .before .before .before .before .before .before .before .before .before .before .before .before .before .before .before .args .tokens .now; counters = c .before .before .before .before .before .before .before .before .before .before .before .before .before .before .before .before .before .args .counters .now; orders = c .before .before .before .before .before .before .before .before .before .before .before .before .before .before .before .before .before .args .orders })
-    (c .before .before .before .before .before .before .before .before .before .before .before .before .before .before .before .before .before .args .word) (c .before .before .before .before .before .before .before .before .before .before .before .before .before .before .before .before .before .args .held .now) (c .before .before .before .before .before .before .before .before .before .before .before .before .before .before .before .before .before .args .shown .now) (c .before .before .before .before .before .before .before .before .before .before .before .before .before .before .before .before .before .args .from .now) (c .before .before .before .before .before .before .before .before .before .before .before .before .before .before .before .before .before .args .upto .now)
-    (c .before .before .before .before .before .before .fall .last .0) (c .before .before .before .fired .result) (c .tally .last .1 .0) (c .tally .last .1 .1 .0) (c .tally .result)
+    → Told (start c .pre .0)
+    (record { tokens = start c .args .tokens .now; counters = start c .args .counters .now; orders = start c .args .orders })
+    (start c .args .word) (start c .args .held .now) (start c .args .shown .now) (start c .args .from .now) (start c .args .upto .now)
+    (fallen c .fall .last .0) (c .before .before .before .before .fired .result) (c .tally .last .1 .0) (c .tally .last .1 .1 .0) (c .tally .result)
 told c =
-    let start = c .before .before .before .before .before .before .before .before .before .before .before .before .before .before .before .before .before in
-    let net = start .pre .0 in
-    let fall = c .before .before .before .before .before .before .fall .ensures in
+    let net = start c .pre .0 in
+    let a = start c .args in
+    let fall = fallen c .fall .ensures in
     record {
-      small = start .pre .1 .0;
-      levels = start .pre .1 .1 .1 .0 .levels;
+      small = start c .pre .1 .0;
+      levels = start c .pre .1 .1 .1 .0 .levels;
       shut = _;
-      shut-is = c .before .before .before .before .before .before .before .before .before .before .before .before .before .before .all-of .ensures;
+      shut-is = seen (fallen c) .gather .ensures .0;
       on = _;
-      on-is = c .before .before .before .before .before .before .before .before .before .before .before .before .before .less .ensures;
-      falls = falls-is _ _ _ (net .limits) (start .args .timed) (net .timed-is) _ _ _ _ (fall .0);
+      on-is = fallen c .before .before .before .before .before .less .ensures;
+      falls = falls-is _ _ _ (net .limits) (a .timed) (net .timed-is) _ _ _ _ (fall .0);
       able = _;
       able-is =
-          firable-is _ _ _ (net .limits) (start .args .timed) (net .timed-is) _ _ _ _ (fall .0) _ (fall .1) (start .args .index .now) (start .args .truths .now)
-          (start .args .word) _ (c .before .before .before .before .before .firable .ensures);
-      low-set = fired-low (c .before .before .before);
-      fires = c .before .before .before .fired .ensures;
+          firable-is _ _ _ (net .limits) (a .timed) (net .timed-is) _ _ _ _ (fall .0) _ (fall .1) (a .index .now) (a .truths .now)
+          (a .word) _ (c .before .before .before .before .before .before .firable .ensures);
+      low-set = fired-low (c .before .before .before .before);
+      fires = c .before .before .before .before .fired .ensures;
       tallied = c .tally .ensures;
     }
 
 over-requires : tie.Need-over-requires
 over-requires c κs =
-    let here = told (c .before .before .before .before) in
-    let start = c .before .before .before .before .before .before .before .before .before .before .before .before .before .before .before .before .before .before .before .before .before in
-    (low-enough (start .pre .0) here, crowded (start .pre .0) here (start .args .ceiling) (start .pre .1 .1 .1 .1))
+    let tally = c .before .before .before in
+    let pre = start tally .pre in
+    let here = told tally in (
+      (pre .0 .within .within, low-enough (pre .0) here, paid (pre .0) here),
+      (still (pre .0) here, crowded (pre .0) here (start tally .args .ceiling) (pre .1 .1 .1 .1)),
+    )
 
 returns : tie.Need-returns
 returns c =
-    let start = c .before .before .before .before .before .before .before .before .before .before .before .before .before .before .before .before .before .before .before .before .before .before .before .before in
-    let net = start .pre .0 in
-    let here = told (c .before .before .before .before .before .before .before) in
-    let over = c .before .before .over .ensures in
+    let over = c .before .before in
+    let tally = tallied over in
+    let a = start tally .args in
+    let pre = start tally .pre in
+    let here = told tally in
     let full = c .before .if1 .taken in
-    let back = c .before .before .before .before .before .before .before .before .before .before .before .before .before .before .before .keep .ensures (only-crowded net here (start .args .ceiling) (start .pre .1 .1 .1 .1) _ over full) in (
+    let back = fallen tally .before .before .keep .ensures (only-crowded (pre .0) here (a .ceiling) (pre .1 .1 .1 .1) _ (over .over .ensures) full) in (
       rw back
-          (bursts net here _ over _ (c .before .before .before .before .before .before .before .before .before .before .before .before .before .before .before .before .before .before .all-of2 .ensures) (actions-low (c .before .before .before .before .before .before .before .before .before .before .before .before .before .before .before .before .before .before)) (functions-low (c .before .before .before .before .before .before .before)) full (start .pre .1 .1 .0)),
+          (bursts (pre .0) here _ (over .over .ensures) _ (seen (fallen tally) .gather .ensures .1) (actions-low (seen (fallen tally))) (functions-low tally) full
+          (pre .1 .1 .0)),
       (λ l. absurd (omega (arith, l, full)), λ l. absurd (omega (arith, l, full))),
     )
 
 settle-requires : tie.Need-settle-requires
 settle-requires c κs =
-    let start = c .before .before .before .before .before .before .before .before .before .before .before .before .before .before .before .before .before .before .before .before .before .before .before .before .before .before .before .before .before .before in
-    let net = start .pre .0 in
-    let tally = c .before .before .before .before .before .before .before .before .before .before .before .before .before in (
-      low-enough net (told tally),
-      ((start .pre .1 .1 .0 .places, tally .tally .ensures .sizes .0, tally .tally .ensures .sizes .1), (net .curbed, (weighty net, start .pre .1 .1 .1 .0 .levels))),
+    let tally = tallied (c .before .before .before .before .before .before .before .before .before .before) in
+    let pre = start tally .pre in
+    let net = pre .0 in
+    let here = told tally in
+    let ready = pre .1 .1 .1 .0 in
+    let sizes = tally .tally .ensures .sizes in (
+      (net .within .within, low-enough net here, paid net here),
+      (
+        still net here,
+        (
+          (pre .1 .1 .0 .places, sizes .0, sizes .1, ready .room .0, ready .room .1),
+          ((net .curbed, weighty net), (ready .levels, lacks net here)),
+        ),
+      ),
     )
 
 union-requires : tie.Need-union-requires
@@ -115,28 +146,29 @@ union-requires c κs = search needs
 
 returns-2 : tie.Need-returns-2
 returns-2 c =
-    let start = c .before .before .before .before .before .before .before .before .before .before .before .before .before .before .before .before .before .before .before .before .before .before .before .before .before .before .before .before .before .before .before .before in
-    let net = start .pre .0 in
-    let here = told (c .before .before .before .before .before .before .before .before .before .before .before .before .before .before .before) in
+    let over = judged (c .before) in
+    let tally = tallied over in
+    let a = start tally .args in
+    let pre = start tally .pre in
+    let here = told tally in
     let settle = c .before .settle .ensures in
-    let over = c .before .before .before .before .before .before .before .before .before .before .over .ensures in
-    let none = c .before .before .before .before .before .before .before .before .before .if1 .left in
-    let actions = c .before .before .before .before .before .before .before .before .before .before .before .before .before .before .before .before .before .before .before .before .before .before .before .before .before .before .all-of2 .ensures in
     let orders : (t : ℕ)
-    → bit (bitAnd (start .args .timed) (c .union .result)) t
-    ≡ (bit (start .args .timed) t && (bit (c .before .before .before .before .before .before .before .before .before .before .before .before .before .before .before .before .before .before .fired .result) t || bit (c .before .settle .result) t)) =
-    λ t. bit-and (start .args .timed) (c .union .result) t ∙ rw (c .union .ensures t) in (
-      stepped net here _ over _ actions (actions-low (c .before .before .before .before .before .before .before .before .before .before .before .before .before .before .before .before .before .before .before .before .before .before .before .before .before .before)) (functions-low (c .before .before .before .before .before .before .before .before .before .before .before .before .before .before .before)) none _ _ (settle .0) orders (settle .1 .0) (c .before .before .before .before .before .before .before .before .before .before .before .before .before .before .before .before .before .before .before .before .before .fall .ensures .0 .size),
-      (λ l. poised net here (settle .1 .0) (settle .1 .1), λ l. topped-still net here (settle .1 .0) (start .args .ceiling) (start .pre .1 .1 .1 .1)),
+    → bit (bitAnd (a .timed) (c .union .result)) t
+    ≡ (bit (a .timed) t && (bit (tally .before .before .before .before .fired .result) t || bit (c .before .settle .result) t)) =
+    λ t. bit-and (a .timed) (c .union .result) t ∙ rw (c .union .ensures t) in (
+      stepped (pre .0) here _ (over .over .ensures) _ (seen (fallen tally) .gather .ensures .1) (actions-low (seen (fallen tally))) (functions-low tally)
+          (c .before .before .before .before .before .before .before .before .before .before .before .if1 .left) _ _ (settle .0) orders (settle .1 .0)
+          (fallen tally .fall .ensures .0 .size),
+      (λ l. poised (pre .0) here (settle .1 .0) (settle .1 .1 .0) (settle .1 .1 .1), λ l. topped-still (pre .0) here (settle .1 .0) (a .ceiling) (pre .1 .1 .1 .1)),
     )
 
 pub step-spec : {M : Type 1} → statement M
 step-spec =
     tie.close
     (tie.spec
-    all-of-requires
+    mul-n
+    gather-requires
     less-requires
-    all-of-requires-2
     keep-requires
     fall-requires
     firable-requires

@@ -63,8 +63,11 @@ asked-requires c κs =
     let taken = c .before .before in
     λ k l. taken .before .before .before .before .before .pre .1 (taken .lowest .result) k (member taken .0) l
 
-without-requires : tie.Need-without-requires Inv-loop μ-loop
-without-requires c κs = search needs
+single-requires : tie.Need-single-requires Inv-loop μ-loop
+single-requires c κs = member (c .before .before .before .before) .0
+
+less-requires-2 : tie.Need-less-requires-2 Inv-loop μ-loop
+less-requires-2 c κs = search needs
 
 rest-requires : tie.Need-rest-requires Inv-loop μ-loop
 rest-requires c κs = search needs
@@ -86,9 +89,9 @@ loop-again c =
     let q : ℕ → Bool = λ t. as-asked (getD (a .index .now) (448 + t) 0) (getD (a .truths .now) t 0) (a .word) in
     let less : (j : ℕ) → bit (c .rest .result) j ≡ (bit (at .left) j && not (eqb t j)) = λ j. rw (taken .lowest .ensures) (c .rest .ensures j) in (
       omega arith,
-      ⊎-elim (λ y. rw (y .2) (omega arith)) (λ y. rw (y .1) (at .inv .1)) (c .before .if1 .came),
+      ⊎-elim (λ y. rw (y .3) (omega arith)) (λ y. rw (y .1) (at .inv .1)) (c .before .if1 .came),
       λ j. ⊎-elim
-          (λ y. rw (y .2) (one-dropped (at .left) t (c .rest .result) less (k .1) q (at .able) (y .1 .result) false (sym (not-true _ (y .0 .taken)) ∙ says .ensures) (y .1 .ensures) j ∙ at .inv .2 j))
+          (λ y. rw (y .3) (one-dropped (at .left) t (c .rest .result) less (k .1) q (at .able) (y .2 .result) false (sym (not-true _ (y .0 .taken)) ∙ says .ensures) (λ j. y .2 .ensures j ∙ rw (y .1 .ensures j)) j ∙ at .inv .2 j))
           (λ y. rw (y .1) (one-dropped (at .left) t (c .rest .result) less (k .1) q (at .able) (at .able) true (sym (not-false _ (y .0 .left)) ∙ says .ensures) (λ j. sym (and-true _)) j ∙ at .inv .2 j))
           (c .before .if1 .came),
     )
@@ -124,7 +127,8 @@ firable-spec =
     mul-asked-2
     element-copy-out-asked-2
     asked-requires
-    without-requires
+    single-requires
+    less-requires-2
     rest-requires
     loop-less
     loop-again

@@ -16,7 +16,7 @@ use Rattle.enabled.proofs.bound.Statement.{statement}
 use Rattle.enabled.proofs.bound.Tie as tie
 
 abbrev Inv-loop : tie.InvT-loop
-Inv-loop index reach n₀ n = Empty-from index n
+Inv-loop index reach n₀ n = Empty-from index n × (n ≤ reach)
 
 abbrev μ-loop : tie.MeasureT-loop
 μ-loop index reach n₀ n = n
@@ -49,16 +49,18 @@ one-less index n h none no-arc no-action =
 loop-holds : tie.Need-loop-holds Inv-loop μ-loop
 loop-holds c =
     let reaches = c .before .pre .1 in
-    let word : (q : ℕ) → getD (c .before .args .index .now) q 0 < 2 ^ 64 = λ q. omega (arith, c .shared-slice-known .given q) in
-    record {
-      within = reaches .most;
-      no-arc = λ p l h. empty _ (word (192 + p)) (λ y. reaches .no-row 2 p y (omega arith) l h);
-      no-action = λ p l h. empty _ (word (576 + p)) (λ y. reaches .no-row 6 p y (omega arith) l h);
-    }
+    let word : (q : ℕ) → getD (c .before .args .index .now) q 0 < 2 ^ 64 = λ q. omega (arith, c .shared-slice-known .given q) in (
+      record {
+        within = reaches .most;
+        no-arc = λ p l h. empty _ (word (192 + p)) (λ y. reaches .no-row 2 p y (omega arith) l h);
+        no-action = λ p l h. empty _ (word (576 + p)) (λ y. reaches .no-row 6 p y (omega arith) l h);
+      },
+      omega arith,
+    )
 
 -- The place at hand.
 place : (c : tie.In-loop Inv-loop μ-loop) → c .before .loop .n ≤ 128
-place c = c .before .loop .inv .within
+place c = c .before .loop .inv .0 .within
 
 add-union : tie.Need-add-union Inv-loop μ-loop
 add-union c = omega (arith, place c)
@@ -96,10 +98,12 @@ loop-again c =
     let index = c .before .before .before .before .before .before .before .args .index .now in
     let word : (q : ℕ) → getD index q 0 < 2 ^ 64 = λ q. omega (arith, c .before .before .before .before .before .before .shared-slice-known .given q) in
     let neither : (y : ℕ) → (bit (getD index (191 + at .n) 0) y || bit (getD index (575 + at .n) 0) y) ≡ false =
-    λ y. sym (c .before .union .ensures y) ∙ rw (c .if1 .left) (bit-zero y) in
-    one-less index (at .n) (omega (arith, c .before .before .before .before .loop-test .taken)) (at .inv)
-    (empty _ (word (191 + at .n)) (λ y l. or-false-left (bit (getD index (191 + at .n) 0) y) (bit (getD index (575 + at .n) 0) y) (neither y)))
-    (empty _ (word (575 + at .n)) (λ y l. or-false-right (bit (getD index (191 + at .n) 0) y) (bit (getD index (575 + at .n) 0) y) (neither y)))
+    λ y. sym (c .before .union .ensures y) ∙ rw (c .if1 .left) (bit-zero y) in (
+      one-less index (at .n) (omega (arith, c .before .before .before .before .loop-test .taken)) (at .inv .0)
+          (empty _ (word (191 + at .n)) (λ y l. or-false-left (bit (getD index (191 + at .n) 0) y) (bit (getD index (575 + at .n) 0) y) (neither y)))
+          (empty _ (word (575 + at .n)) (λ y l. or-false-right (bit (getD index (191 + at .n) 0) y) (bit (getD index (575 + at .n) 0) y) (neither y))),
+      omega (arith, at .inv .1),
+    )
 
 returns-2 : tie.Need-returns-2 Inv-loop μ-loop
 returns-2 c = c .before .loop .inv

@@ -19,7 +19,7 @@ Spanned index w s m held shown from upto q =
     Spans index w s q (getD held q 0) (getD shown q 0) (getD from q 0) (getD upto q 0) × (getD from q 0 ≤ getD m q 0) × (getD m q 0 < getD upto q 0)
 
 abbrev Lent : List ℕ → List ℕ → List ℕ → List ℕ → ℕ → Type 0
-Lent held shown from upto q = (getD held q 0 ≡ 0) × (getD shown q 0 ≡ 0) × (getD from q 0 ≡ 0) × (getD upto q 0 ≡ 4294967295)
+Lent held shown from upto q = (getD held q 0 ≡ 0) × (getD shown q 0 ≡ 0) × (getD from q 0 ≡ 0) × (getD upto q 0 ≡ 2147483647)
 
 module _ {index : List ℕ} {w s : List (List ℕ)} (m : List ℕ) {held shown from upto held′ shown′ from′ upto′ : List ℕ} {p : ℕ}
     (moves : Moves-to index w s p (getD m p 0) held shown from upto held′ shown′ from′ upto′) where
@@ -42,7 +42,7 @@ module _ {index : List ℕ} {w s : List (List ℕ)} (m : List ℕ) {held shown f
 
 -- With all places passed, and neither arc nor action from n on, the rows span the tokens.
 all-spanned : (index : List ℕ) (w s : List (List ℕ)) (m held shown from upto : List ℕ) (n p : ℕ) → Empty-from index n → n ≤ p → Four held shown from upto
-    → ((q : ℕ) → q < 128 → getD m q 0 < 4294967295)
+    → ((q : ℕ) → q < 128 → getD m q 0 < 2147483647)
     → ((q : ℕ) → q < p → Spanned index w s m held shown from upto q) → ((q : ℕ) → p ≤ q → q < 128 → Lent held shown from upto q)
     → Levels index w s m held shown from upto
 all-spanned index w s m held shown from upto n p none l four few passed to-come =
@@ -54,7 +54,7 @@ all-spanned index w s m held shown from upto n p none l four few passed to-come 
         let past : p ≤ q = ltb-false q p e in
         let o = to-come q past h in
         rw (o .0, o .1, o .2, o .3)
-        (none-spans index w s q 0 4294967295 (none .no-arc q (omega (arith, past, l)) h) (none .no-action q (omega (arith, past, l)) h), omega arith, few q h)
+        (none-spans index w s q 0 2147483647 (none .no-arc q (omega (arith, past, l)) h) (none .no-action q (omega (arith, past, l)) h) (omega arith), omega arith, few q h)
 
 abbrev Inv-loop : tie.InvT-loop
 Inv-loop m index curbs w s n held₀ shown₀ from₀ upto₀ p₀ held shown from upto p =

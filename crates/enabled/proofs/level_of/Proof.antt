@@ -1,55 +1,54 @@
--- The loop keeps the level of the tokens at the arcs that are asked: those that they do not reach are short, and none of their weights is passed.
-use mathlib.Core.Bool.{Bool, true, false, cond, not, _&&_, _||_, and-true}
+-- Without a token every arc is short, as each has a weight. With tokens the loop keeps their level at the arcs that are asked: those that they do not reach
+-- are short, and none of their weights is passed.
+use mathlib.Core.Bool.{Bool, true, false, not, _&&_, _||_, and-true}
 use mathlib.Core.Path.{_≡_, refl, sym, _∙_}
 use Prim.Native.Nat.{ℕ, _^_, _≤_, _<_}
 use native.Mathlib.Omega.{arith}
 use lib.Dec.{eqb, ltb}
 use lib.ListN.{getD}
 use borrow.Author.Needs.{needs}
-use borrow.Author.Tests.{eqb-true, eqb-false}
+use borrow.Author.Tests.{eqb-true, eq-eqb, ne-eqb}
 use Rattle.meaning.specs.Bytes.{bit}
 use Rattle.meaning.proofs.Bool.{not-both}
 use Rattle.sets.proofs.Bits.{bit-zero}
 use Rattle.sets.proofs.Members.{lowest-in, falls, kept}
-use Rattle.enabled.proofs.Held.{levelled, emptied}
+use Rattle.enabled.proofs.Held.{all-short, levelled}
 use Rattle.enabled.proofs.Walk.{none-kept, all-in}
 use Rattle.enabled.proofs.level_of.Statement.{statement}
 use Rattle.enabled.proofs.level_of.Tie as tie
 
 abbrev Inv-loop : tie.InvT-loop
 Inv-loop tokens arcs w x₀ left₀ x left =
-    (left < 2 ^ 64) × (cond (eqb tokens 0) 0 1 ≤ x .from) × (x .upto ≤ cond (eqb tokens 0) 1 4294967295) × (x .from ≤ tokens) × (tokens < x .upto)
+    (left < 2 ^ 64) × (1 ≤ x .from) × (x .upto ≤ 2147483647) × (x .from ≤ tokens) × (tokens < x .upto)
     × ((t : ℕ) → (bit (x .short) t || (bit left t && ltb tokens (getD w t 0))) ≡ (bit arcs t && ltb tokens (getD w t 0)))
     × ((t : ℕ) → bit arcs t ≡ true → bit left t ≡ false → (getD w t 0 ≤ tokens → getD w t 0 ≤ x .from) × (tokens < getD w t 0 → x .upto ≤ getD w t 0))
 
 abbrev μ-loop : tie.MeasureT-loop
 μ-loop tokens arcs w x₀ left₀ x left = left
 
-floor-requires : tie.Need-floor-requires Inv-loop μ-loop
-floor-requires c κs = search needs
-
-roof-requires : tie.Need-roof-requires Inv-loop μ-loop
-roof-requires c κs = search needs
+returns : tie.Need-returns Inv-loop μ-loop
+returns c =
+    let a = c .before .args in
+    record {
+      roof = omega arith;
+      inside = (omega arith, omega (arith, c .if1 .taken));
+      empty = λ k l h. eq-eqb k 0 (omega (arith, h)) ∙ sym (eq-eqb (a .tokens) 0 (c .if1 .taken));
+      short-is = λ k l h.
+          let none : k ≡ 0 = omega (arith, h) in
+          rw none (all-short (a .arcs) (a .w .now) (omega arith) (c .before .pre .1));
+    }
 
 loop-holds : tie.Need-loop-holds Inv-loop μ-loop
-loop-holds c = (
-  omega arith,
-  omega (arith, c .before .floor .ensures),
-  omega (arith, c .roof .ensures),
-  begins .0,
-  begins .1,
-  λ t. none-kept (c .before .before .args .arcs) t _,
-  λ t e n. not-both e n,
-)
-  where
-    starts : (tokens : ℕ) → tokens < 4294967295 → (b : Bool) → eqb tokens 0 ≡ b → (cond b 0 1 ≤ tokens) × (tokens < cond b 1 4294967295)
-    starts tokens h true e = (omega arith, omega (arith, eqb-true tokens 0 e))
-    starts tokens h false e =
-        let apart : ¬ (tokens ≡ 0) = eqb-false tokens 0 e in
-        (omega (arith, apart), h)
-
-    begins : (c .before .floor .result ≤ c .before .before .args .tokens) × (c .before .before .args .tokens < c .roof .result)
-    begins = rw (c .before .floor .ensures, c .roof .ensures) (starts _ (c .before .before .pre) _ refl)
+loop-holds c =
+    let a = c .before .args in (
+      omega arith,
+      omega arith,
+      omega arith,
+      omega (arith, c .if1 .left),
+      c .before .pre .0,
+      λ t. none-kept (a .arcs) t _,
+      λ t e n. not-both e n,
+    )
 
 lowest-requires : tie.Need-lowest-requires Inv-loop μ-loop
 lowest-requires c κs = search needs
@@ -84,7 +83,7 @@ loop-less c =
 loop-again : tie.Need-loop-again Inv-loop μ-loop
 loop-again c =
     let at = c .before .before .before .before .before .loop in
-    let a = c .before .before .before .before .before .before .before .before .args in
+    let a = c .before .before .before .before .before .before .before .args in
     let k = member (c .before .before .before) in
     let y = c .before .narrowed .ensures in (
       omega arith,
@@ -98,12 +97,12 @@ loop-again c =
       λ t e n. ends t e n (eqb (c .before .before .before .lowest .result) t) refl,
     )
   where
-    ends : (t : ℕ) → bit (c .before .before .before .before .before .before .before .before .args .arcs) t ≡ true → bit (c .rest .result) t ≡ false
+    ends : (t : ℕ) → bit (c .before .before .before .before .before .before .before .args .arcs) t ≡ true → bit (c .rest .result) t ≡ false
         → (b : Bool) → eqb (c .before .before .before .lowest .result) t ≡ b
-        → (getD (c .before .before .before .before .before .before .before .before .args .w .now) t 0 ≤ c .before .before .before .before .before .before .before .before .args .tokens
-        → getD (c .before .before .before .before .before .before .before .before .args .w .now) t 0 ≤ c .before .narrowed .result .from)
-        × (c .before .before .before .before .before .before .before .before .args .tokens < getD (c .before .before .before .before .before .before .before .before .args .w .now) t 0
-        → c .before .narrowed .result .upto ≤ getD (c .before .before .before .before .before .before .before .before .args .w .now) t 0)
+        → (getD (c .before .before .before .before .before .before .before .args .w .now) t 0 ≤ c .before .before .before .before .before .before .before .args .tokens
+        → getD (c .before .before .before .before .before .before .before .args .w .now) t 0 ≤ c .before .narrowed .result .from)
+        × (c .before .before .before .before .before .before .before .args .tokens < getD (c .before .before .before .before .before .before .before .args .w .now) t 0
+        → c .before .narrowed .result .upto ≤ getD (c .before .before .before .before .before .before .before .args .w .now) t 0)
     ends t e n true q = rw (← eqb-true _ t q) (c .before .narrowed .ensures .reached, c .before .narrowed .ensures .missed)
     ends t e n false q =
         let y = c .before .narrowed .ensures in
@@ -111,13 +110,14 @@ loop-again c =
         let o = c .before .before .before .before .before .loop .inv .6 t e gone in
         (λ h. omega (arith, o .0 h, y .from-up), λ h. omega (arith, o .1 h, y .upto-down))
 
-returns : tie.Need-returns Inv-loop μ-loop
-returns c =
+returns-2 : tie.Need-returns-2 Inv-loop μ-loop
+returns-2 c =
     let at = c .before .loop in
-    let a = c .before .before .before .before .args in
+    let a = c .before .before .before .args in
     record {
+      roof = at .inv .2;
       inside = (at .inv .3, at .inv .4);
-      empty = λ k l h. emptied (a .tokens) _ _ k (at .inv .1) (at .inv .2) l h;
+      empty = λ k l h. ne-eqb k 0 (λ e. omega (arith, at .inv .1, l)) ∙ sym (ne-eqb (a .tokens) 0 (λ e. omega (arith, at .inv .1, at .inv .3)));
       short-is = λ k l h.
           levelled (a .arcs) (a .w .now) (at .x) k l h
           (λ t. all-in (λ j. ltb (a .tokens) (getD (a .w .now) j 0)) (a .arcs) (at .left) (at .x .short) t (c .loop-test .left) (at .inv .5 t))
@@ -130,8 +130,7 @@ level-of-spec =
     (tie.spec
     Inv-loop
     μ-loop
-    floor-requires
-    roof-requires
+    returns
     loop-holds
     lowest-requires
     mul-narrowed
@@ -140,4 +139,4 @@ level-of-spec =
     rest-requires
     loop-less
     loop-again
-    returns)
+    returns-2)

@@ -1,5 +1,5 @@
 -- By cases on whether the tokens reach the weight.
-use mathlib.Core.Bool.{_||_, or-false}
+use mathlib.Core.Bool.{or-false}
 use mathlib.Core.Path.{sym, _∙_}
 use native.Mathlib.Omega.{arith}
 use borrow.Author.Needs.{needs}

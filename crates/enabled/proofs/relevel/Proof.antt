@@ -26,7 +26,9 @@ index-1-level-of : tie.Need-index-1-level-of
 index-1-level-of c = search needs
 
 level-of-requires : tie.Need-level-of-requires
-level-of-requires c κs = search needs
+level-of-requires c κs =
+    let start = c .before .before in
+    (start .pre .0 .1, λ t h e. start .pre .1 .0 .1 .least (start .args .p) t (start .pre .0 .0) h e)
 
 mul-less : tie.Need-mul-less
 mul-less c = search needs
@@ -107,8 +109,9 @@ returns c =
       );
       spans = rw (here-held, here-shown, here-from, here-upto)
           record {
+            roof = x .roof;
             holds = λ k l h.
-                row-held (start .pre .1 .0) (a .p) place (a .w .now) k (level-of .level-of .result .short) _ (omega arith) (x .short-is k l h)
+                row-held (start .pre .1 .0 .0) (a .p) place (a .w .now) k (level-of .level-of .result .short) _ (omega arith) (x .short-is k l h)
                 (λ t. joins .union .ensures t ∙ rw (joins .before .before .before .less .ensures t, joins .before .less2 .ensures t));
             shows = λ k l h. c .shows .ensures ∙ ap (λ (b : Bool). cond b 0 (getD (a .index .now) (576 + a .p) 0)) (sym (x .empty k l h));
           };

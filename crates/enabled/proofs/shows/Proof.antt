@@ -1,5 +1,4 @@
 -- By cases on whether there is a token.
-use mathlib.Core.Path.{sym}
 use borrow.Author.Tests.{eq-eqb, ne-eqb}
 use Rattle.enabled.proofs.shows.Statement.{statement}
 use Rattle.enabled.proofs.shows.Tie as tie

@@ -1,8 +1,8 @@
--- `tally` meets its contract: what is moved and what the members left are still to move is what all move, and so with the places and the functions; a
--- member is taken out with all its arcs, its places and its functions.
+-- `tally` meets its contract: what is moved and what the members left are still to move is what all move, and so with the functions and with whom the
+-- places from which they take hold back; a member is taken out with all its arcs and its functions.
 use mathlib.Core.Bool.{Bool, true, false, not, _&&_, _||_}
 use mathlib.Core.List.{List}
-use mathlib.Core.Path.{_≡_, _∙_}
+use mathlib.Core.Path.{_≡_}
 use Prim.Native.Nat.{ℕ, _+_, _^_, _<_}
 use native.Mathlib.Omega.{arith}
 use lib.Dec.{eqb}
@@ -13,14 +13,11 @@ use Rattle.meaning.specs.Bytes.{bit}
 use Rattle.meaning.specs.Table.{Table, table, total}
 use Rattle.sets.proofs.Bits.{bit-zero}
 use Rattle.sets.proofs.Members.{lowest-in, falls}
-use Rattle.places.specs.declared.Places.{Places}
-use Rattle.places.specs.Set.{has}
-use Rattle.net.proofs.Arcs.{arc-ranges}
 use Rattle.moves.specs.Tallied.{Fits, Followed}
 use Rattle.moves.proofs.Sums.{load}
 use Rattle.moves.proofs.Step.{with-others, apart, joined, all-joined}
 use Rattle.moves.proofs.Turns.{Tallying, begins, done, followed, fits}
-use Rattle.moves.proofs.Touched.{nowhere, places-of, all-places}
+use Rattle.moves.proofs.Somewhere.{lacked, lacks, gathers, all-gathered}
 use Rattle.moves.proofs.tally.Statement.{statement}
 use Rattle.moves.proofs.tally.Tie as tie
 
@@ -33,13 +30,12 @@ abbrev functions-of : List ℕ → ℕ → ℕ
 functions-of index t = getD index (704 + t) 0
 
 -- The members of `left` are still to be tallied.
-record Part (tb : Table) (chosen : ℕ) (low high index : List ℕ) (left : ℕ) (taken put : List ℕ) (at : Places) (functions : ℕ) : Type 0 where
+record Part (tb : Table) (chosen : ℕ) (held curbs index : List ℕ) (left : ℕ) (taken put : List ℕ) (functions lack : ℕ) : Type 0 where
   taking : Tallying tb 0 (load tb 0 (of tb chosen)) (of tb left) taken
   putting : Tallying tb 3 (load tb 3 (of tb chosen)) (of tb left) put
-  places : (p : ℕ) → (has at p || some 64 (λ t. bit left t && has (places-of low high t) p))
-      ≡ some 64 (λ t. bit chosen t && has (places-of low high t) p)
   executed : (k : ℕ) → (bit functions k || some 64 (λ t. bit left t && bit (functions-of index t) k))
       ≡ some 64 (λ t. bit chosen t && bit (functions-of index t) k)
+  held-back : (j : ℕ) → (bit lack j || lacks tb 0 held curbs (of tb left) j) ≡ lacks tb 0 held curbs (of tb chosen) j
 
 -- Member u is taken out, and the others are left.
 module _ (tb : Table) (chosen left rest u : ℕ) (low-u : u < 64) (has-u : bit left u ≡ true)
@@ -54,37 +50,39 @@ module _ (tb : Table) (chosen left rest u : ℕ) (low-u : u < 64) (has-u : bit l
     own-followed : (after : List ℕ) → Followed tb sort u moved after → Tallying tb sort (load tb sort (of tb chosen)) (of tb rest) after
     own-followed = followed tb sort (load tb sort (of tb chosen)) (of tb left) moved y (of tb rest) u (λ k h is. splits k) parts
 
-  one-more : (low high index taken put : List ℕ) (at : Places) (functions : ℕ) → Part tb chosen low high index left taken put at functions
+  one-more : (held curbs index taken put : List ℕ) (functions lack : ℕ) → Part tb chosen held curbs index left taken put functions lack
       → (taken′ put′ : List ℕ) → Followed tb 0 u taken taken′ → Followed tb 3 u put put′
-      → (at′ : Places) → ((p : ℕ) → has at′ p ≡ (has at p || has (places-of low high u) p))
       → (functions′ : ℕ) → ((k : ℕ) → bit functions′ k ≡ (bit functions k || bit (functions-of index u) k))
-      → Part tb chosen low high index rest taken′ put′ at′ functions′
-  one-more low high index taken put at functions g taken′ put′ takes puts at′ gains functions′ gives =
+      → (lack′ : ℕ) → ((j : ℕ) → bit lack′ j ≡ (bit lack j || lacks tb 0 held curbs (λ k. eqb u (tb .two k)) j))
+      → Part tb chosen held curbs index rest taken′ put′ functions′ lack′
+  one-more held curbs index taken put functions lack g taken′ put′ takes puts functions′ gives lack′ tells =
       record {
         taking = own-followed 0 taken (g .taking) taken′ takes;
         putting = own-followed 3 put (g .putting) put′ puts;
-        places = λ p. joined left rest u has-u less (λ t. has (places-of low high t) p) low-u (has at p) (gains p) (g .places p);
         executed = λ k. joined left rest u has-u less (λ t. bit (functions-of index t) k) low-u (bit functions k) (gives k) (g .executed k);
+        held-back = λ j.
+            gathers tb 0 (lacked held curbs j) (of tb left) (of tb rest) (λ k. eqb u (tb .two k)) (λ k h is. splits k) (bit lack j) (tells j)
+            (g .held-back j);
       }
 
 abbrev Inv-loop : tie.InvT-loop
-Inv-loop t taken₀ put₀ set heads next low high index at₀ functions₀ left₀ taken put at functions left =
-    (left < 2 ^ 64) × Part (table t) set low high index left taken put at functions
+Inv-loop t taken₀ put₀ set held curbs heads next index functions₀ lack₀ left₀ taken put functions lack left =
+    (left < 2 ^ 64) × Part (table t) set held curbs index left taken put functions lack
 
 abbrev μ-loop : tie.MeasureT-loop
-μ-loop t taken₀ put₀ set heads next low high index at₀ functions₀ left₀ taken put at functions left = left
+μ-loop t taken₀ put₀ set held curbs heads next index functions₀ lack₀ left₀ taken put functions lack left = left
 
 loop-holds : tie.Need-loop-holds Inv-loop μ-loop
 loop-holds c =
     let a = c .before .args in
     let tb : Table = table (a .t .now) in
-    let unmoved = c .before .pre .1 .1 .1 in (
+    let unmoved = c .before .pre .1 .1 in (
       omega arith,
       record {
         taking = begins tb 0 (of tb (a .set)) (a .taken .now) (unmoved .0);
         putting = begins tb 3 (of tb (a .set)) (a .put .now) (unmoved .1);
-        places = λ p. rw (nowhere p);
         executed = λ k. rw (bit-zero k);
+        held-back = λ j. rw (bit-zero j);
       },
     )
 
@@ -104,32 +102,17 @@ others : (c : tie.After-rest Inv-loop μ-loop) (j : ℕ)
     → bit (c .rest .result) j ≡ (bit (c .before .before .before .loop .left) j && not (eqb (c .before .lowest .result) j))
 others c j = rw (c .before .lowest .ensures) (c .rest .ensures j)
 
-mul-near : tie.Need-mul-near Inv-loop μ-loop
-mul-near c = omega (arith, member (c .before) .0)
+add-union : tie.Need-add-union Inv-loop μ-loop
+add-union c = omega (arith, member (c .before) .0)
 
-element-copy-out-near : tie.Need-element-copy-out-near Inv-loop μ-loop
-element-copy-out-near c = omega (arith, member (c .before) .0)
+mul-union : tie.Need-mul-union Inv-loop μ-loop
+mul-union c = omega (arith, member (c .before) .0)
 
-mul-far : tie.Need-mul-far Inv-loop μ-loop
-mul-far c = omega (arith, member (c .before .before) .0)
-
-element-copy-out-far : tie.Need-element-copy-out-far Inv-loop μ-loop
-element-copy-out-far c = omega (arith, member (c .before .before) .0)
+element-copy-out-union : tie.Need-element-copy-out-union Inv-loop μ-loop
+element-copy-out-union c = omega (arith, member (c .before) .0)
 
 union-requires : tie.Need-union-requires Inv-loop μ-loop
 union-requires c κs = search needs
-
-add-union : tie.Need-add-union Inv-loop μ-loop
-add-union c = omega (arith, member (c .before .before .before .before) .0)
-
-mul-union : tie.Need-mul-union Inv-loop μ-loop
-mul-union c = omega (arith, member (c .before .before .before .before) .0)
-
-element-copy-out-union : tie.Need-element-copy-out-union Inv-loop μ-loop
-element-copy-out-union c = omega (arith, member (c .before .before .before .before) .0)
-
-union-requires-2 : tie.Need-union-requires-2 Inv-loop μ-loop
-union-requires-2 c κs = search needs
 
 -- What the member moves over arcs of one sort fits beside what is moved.
 own-room : (d : tie.After-rest Inv-loop μ-loop) (sort : ℕ) (moved : List ℕ)
@@ -148,42 +131,42 @@ own-room d sort moved y own known =
 
 follow-requires : tie.Need-follow-requires Inv-loop μ-loop
 follow-requires c κs =
-    let d = c .before .before .before .before .before .before in
+    let d = c .before .before .before in
     let pre = d .before .before .before .before .before .pre in
     let at = d .before .before .before .loop in
     (pre .0, (pre .1 .0, own-room d 0 (at .taken) (at .inv .1 .taking) _ (omega arith)))
 
 follow-requires-2 : tie.Need-follow-requires-2 Inv-loop μ-loop
 follow-requires-2 c κs =
-    let d = c .before .before .before .before .before .before .before .before in
+    let d = c .before .before .before .before .before in
     let pre = d .before .before .before .before .before .pre in
     let at = d .before .before .before .loop in
     (pre .0, (pre .1 .0, own-room d 3 (at .put) (at .inv .1 .putting) _ (omega arith)))
 
 loop-less : tie.Need-loop-less Inv-loop μ-loop
 loop-less c =
-    let d = c .before .before .before .before .before .before .before .before .before in
+    let d = c .before .before .before .before .before .before in
     let at = d .before .before .before .loop in
     falls (at .left) (d .before .lowest .result) (d .rest .result) (others d) (at .inv .0) (omega arith) (member (d .before) .1)
 
 loop-again : tie.Need-loop-again Inv-loop μ-loop
 loop-again c =
-    let joins = c .before .before .before .before in
-    let d = joins .before .before .before .before .before in
+    let takes = c .before .before in
+    let joins = takes .before .before in
+    let d = joins .before .before in
     let a = d .before .before .before .before .before .args in
     let at = d .before .before .before .loop in
     let m = member (d .before) in (
       omega arith,
       one-more (table (a .t .now)) (a .set) (at .left) (d .rest .result) (d .before .lowest .result) (m .0) (m .1) (others d)
-          (a .low .now) (a .high .now) (a .index .now) (at .taken) (at .put) (at .at) (at .functions) (at .inv .1) _ _
-          (c .before .before .follow .ensures) (c .follow2 .ensures) _ (joins .before .before .union .ensures) _ (joins .union2 .ensures),
+          (a .held .now) (a .curbs .now) (a .index .now) (at .taken) (at .put) (at .functions) (at .lack) (at .inv .1) _ _
+          (takes .follow .ensures .0) (c .follow2 .ensures .0) _ (joins .union .ensures) _ (takes .follow .ensures .1),
     )
 
 returns : tie.Need-returns Inv-loop μ-loop
 unfolding total
 returns c =
-    let start = c .before .before .before in
-    let a = start .args in
+    let a = c .before .before .before .args in
     let tb : Table = table (a .t .now) in
     let at = c .before .loop in
     let g = at .inv .1 in
@@ -192,10 +175,8 @@ returns c =
       sizes = (g .taking .size, g .putting .size);
       taken-is = done tb 0 (load tb 0 (of tb (a .set))) (of tb (at .left)) (at .taken) (g .taking) none;
       put-is = done tb 3 (load tb 3 (of tb (a .set))) (of tb (at .left)) (at .put) (g .putting) none;
-      at-is = λ p h.
-          all-joined (at .left) (λ t. has (places-of (a .low .now) (a .high .now) t) p) (has (at .at) p) (c .loop-test .left) (g .places p)
-          ∙ all-places tb p (bit (a .set)) (λ r l k. arc-ranges (a .t .now) (start .pre .0) r l k .1) (a .low .now) (a .high .now) (start .pre .1 .1 .0) h;
       functions-are = λ k. all-joined (at .left) (λ t. bit (functions-of (a .index .now) t) k) (bit (at .functions) k) (c .loop-test .left) (g .executed k);
+      lack-is = λ j. all-gathered tb 0 (lacked (a .held .now) (a .curbs .now) j) (of tb (at .left)) none (bit (at .lack) j) (g .held-back j);
     }
 
 pub tally-spec : {M : Type 1} → statement M
@@ -207,15 +188,10 @@ tally-spec =
     loop-holds
     lowest-requires
     rest-requires
-    mul-near
-    element-copy-out-near
-    mul-far
-    element-copy-out-far
-    union-requires
     add-union
     mul-union
     element-copy-out-union
-    union-requires-2
+    union-requires
     follow-requires
     follow-requires-2
     loop-less

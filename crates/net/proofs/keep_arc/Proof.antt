@@ -41,7 +41,10 @@ sound : (c : tie.Else1) → fault-of (c .before .before .args .x) ≡ 0
 sound c = sym (own-fault (c .before)) ∙ c .if1 .left
 
 arc-row-requires : tie.Need-arc-row-requires
-arc-row-requires c κs = omega (arith, c .before .before .wide .ensures, one-there _ (sound (c .before .before .before)))
+arc-row-requires c κs =
+    let start = c .before .before .before .before .before in
+    let s = sound (c .before .before .before) in
+    (omega (arith, c .before .before .wide .ensures, one-there _ s), sort-there _ s (start .pre .1), start .pre .3)
 
 -- Its row and its bit in the index.
 row-is : (c : tie.After-arc-row) → c .arc-row .result ≡ row-of (c .before .before .before .before .before .before .args .x)

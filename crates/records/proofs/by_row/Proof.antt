@@ -10,7 +10,7 @@ use borrow.Author.Tests.{lt-ltb, le-ltb}
 use Rattle.meaning.specs.Defined.{bad-field, bad-kind}
 use Rattle.meaning.proofs.Bool.{or-false, or-true-left, or-true-right}
 use Rattle.records.specs.declared.Rec.{Rec}
-use Rattle.records.specs.Record.{interval-of, alone, fault-of}
+use Rattle.records.specs.Record.{interval-of, alone}
 use Rattle.records.proofs.Limits.{verdict, sort-tested, fields-tested}
 use borrow.Author.Needs.{needs}
 use Rattle.records.proofs.by_row.Statement.{statement}

@@ -1,13 +1,13 @@
 -- `lay_arcs` meets its contract: after r records the cells, the inhibitor arcs, the places and the weight are those of these records; an arc fills what
 -- its sort asks for and leaves the others as they were.
-use mathlib.Core.Bool.{Bool, true, false, cond, _&&_, and-false, or-true}
+use mathlib.Core.Bool.{Bool, true, false, cond, _&&_, and-false}
 use mathlib.Core.List.{List}
 use mathlib.Core.Logic.{inl, inr}
 use mathlib.Core.Path.{_≡_, refl, sym, _∙_, subst}
 use Prim.Native.Nat.{ℕ, _+_, _*_, _-_, _≤_, _<_}
 use native.Mathlib.Numerals.{add-one}
 use native.Mathlib.Omega.{arith}
-use lib.Dec.{eqb, ltb}
+use lib.Dec.{ltb}
 use borrow.Author.Needs.{needs}
 use borrow.Author.Tests.{eq-eqb, ne-eqb, lt-ltb, le-ltb}
 use Rattle.meaning.specs.Below.{sum}
@@ -16,7 +16,7 @@ use Rattle.meaning.proofs.Bool.{and-true}
 use Rattle.records.specs.Record.{Reads}
 use Rattle.net.specs.Rows.{input}
 use Rattle.net.specs.Grow.{names, Grown, Kept}
-use Rattle.net.specs.Chains.{between, moving, asking, Touches, Enters}
+use Rattle.net.specs.Chains.{between, asking, Enters}
 use Rattle.net.proofs.Arcs.{arc-ranges, arc-sort, few-records}
 use Rattle.net.proofs.Filing.{others, no-kind, no-sort, gathered}
 use Rattle.net.proofs.Step.{all-read, grown-none, kept-none, kept-same}
@@ -33,11 +33,10 @@ abbrev Cells : Table → ℕ → List (List ℕ) → List (List ℕ) → Type 0
 Cells tb r w s = Kept tb (tb .four) r w × Kept tb (tb .sort) r s
 
 -- What the first r records have left.
-record Part (tb : Table) (r : ℕ) (w s : List (List ℕ)) (curbs low high near far : List ℕ) (gain : ℕ) : Type 0 where
+record Part (tb : Table) (r : ℕ) (w s : List (List ℕ)) (curbs low high : List ℕ) (gain : ℕ) : Type 0 where
   cells : Cells tb r w s
   curbing : Grown 128 r (names tb 3 2) curbs
   entering : Enters tb r low high
-  touching : Touches tb r near far
   gains : gain ≡ sum r (put-by tb)
   most : gain ≤ 65535 * r
 
@@ -59,8 +58,8 @@ an-input : (tb : Table) (r p t : ℕ) → tb .kind r ≡ 3 → tb .sort r < 3 �
 an-input tb r p t k l one two =
     and-true (and-true (and-true (eq-eqb _ _ k) (lt-ltb (tb .sort r) 3 l)) (eq-eqb (tb .one r) p (sym one))) (eq-eqb (tb .two r) t (sym two))
 
-module _ (tb : Table) (r : ℕ) (w s : List (List ℕ)) (curbs low high near far : List ℕ) (gain : ℕ)
-    (g : Part tb r w s curbs low high near far gain) where
+module _ (tb : Table) (r : ℕ) (w s : List (List ℕ)) (curbs low high : List ℕ) (gain : ℕ)
+    (g : Part tb r w s curbs low high gain) where
   -- A record that is no input arc fills no cells.
   cells-same : (is tb 3 r && ltb (tb .sort r) 3) ≡ false → Cells tb (r + 1) w s
   cells-same e = (kept-same tb (tb .four) r w (g .cells .0) e, kept-same tb (tb .sort) r s (g .cells .1) e)
@@ -74,62 +73,53 @@ module _ (tb : Table) (r : ℕ) (w s : List (List ℕ)) (curbs low high near far
   unfolding sum
   more-gain e = rw (add-one r, e) (omega (arith, g .gains))
 
-  -- A record that is no inhibitor arc curbs nobody, and one that is neither a basic nor a post arc moves nothing.
+  -- A record that is no inhibitor arc curbs nobody.
   uncurbed : ¬ (tb .sort r ≡ 2) → Grown 128 (r + 1) (names tb 3 2) curbs
   uncurbed n = others tb r 3 2 (g .curbing) (no-sort tb r 3 2 n)
 
-  untouched : ¬ (tb .sort r ≡ 0) → ¬ (tb .sort r ≡ 3) → Touches tb (r + 1) near far
-  untouched m n = reached-same tb (moving tb) r near far (g .touching) (rw (not-sort tb 0 r m, not-sort tb 3 r n))
-
-  -- Record r is no arc; a post arc; an input arc, of which a basic arc also takes and an inhibitor arc curbs.
-  no-arc-more : ¬ (tb .kind r ≡ 3) → Part tb (r + 1) w s curbs low high near far gain
+  -- Record r is no arc; a post arc; an input arc.
+  no-arc-more : ¬ (tb .kind r ≡ 3) → Part tb (r + 1) w s curbs low high gain
   no-arc-more n =
       record {
         cells = cells-same (no-arc tb r n _);
         curbing = others tb r 3 2 (g .curbing) (no-kind tb r 3 2 n);
         entering = reached-same tb (asking tb) r low high (g .entering) (no-arc tb r n _);
-        touching = reached-same tb (moving tb) r near far (g .touching) (rw (no-arc tb r n (eqb (tb .sort r) 0), no-arc tb r n (eqb (tb .sort r) 3)));
         gains = no-gain (no-arc tb r n _);
         most = omega (arith, g .most);
       }
 
   module _ (kind : tb .kind r ≡ 3) where
-    post-more : tb .sort r ≡ 3 → (v : ℕ) → v ≡ tb .four r → v ≤ 65535 → (near′ far′ : List ℕ) → Touches tb (r + 1) near′ far′
-        → Part tb (r + 1) w s curbs low high near′ far′ (gain + v)
-    post-more sort v weight small near′ far′ touching =
+    post-more : tb .sort r ≡ 3 → (v : ℕ) → v ≡ tb .four r → v ≤ 65535 → Part tb (r + 1) w s curbs low high (gain + v)
+    post-more sort v weight small =
         record {
           cells = cells-same (past-sort tb r sort);
           curbing = uncurbed (λ z. omega arith);
           entering = reached-same tb (asking tb) r low high (g .entering) (past-sort tb r sort);
-          touching = touching;
           gains = rw weight (more-gain (of-sort tb 3 r kind sort));
           most = omega (arith, g .most);
         }
 
-    module _ (no-post : ¬ (tb .sort r ≡ 3)) (w′ s′ : List (List ℕ)) (cells : Cells tb (r + 1) w′ s′) (low′ high′ : List ℕ) (entering : Enters tb (r + 1) low′ high′) where
-      -- What every input arc leaves.
-      input-more : (curbs′ near′ far′ : List ℕ) → Grown 128 (r + 1) (names tb 3 2) curbs′ → Touches tb (r + 1) near′ far′
-          → Part tb (r + 1) w′ s′ curbs′ low′ high′ near′ far′ gain
-      input-more curbs′ near′ far′ curbing touching =
-          record {
-            cells = cells;
-            curbing = curbing;
-            entering = entering;
-            touching = touching;
-            gains = no-gain (not-sort tb 3 r no-post);
-            most = omega (arith, g .most);
-          }
+    input-more : ¬ (tb .sort r ≡ 3) → (w′ s′ : List (List ℕ)) → Cells tb (r + 1) w′ s′ → (low′ high′ : List ℕ) → Enters tb (r + 1) low′ high′
+        → (curbs′ : List ℕ) → Grown 128 (r + 1) (names tb 3 2) curbs′ → Part tb (r + 1) w′ s′ curbs′ low′ high′ gain
+    input-more no-post w′ s′ cells low′ high′ entering curbs′ curbing =
+        record {
+          cells = cells;
+          curbing = curbing;
+          entering = entering;
+          gains = no-gain (not-sort tb 3 r no-post);
+          most = omega (arith, g .most);
+        }
 
 -- A record that passes is between its transition and its place.
 there : (tb : Table) (of : ℕ → Bool) (r t p : ℕ) → of r ≡ true → t ≡ tb .two r → p ≡ tb .one r → between tb of t p r ≡ true
 there tb of r t p here two one = and-true (and-true here (eq-eqb (tb .two r) t (sym two))) (eq-eqb (tb .one r) p (sym one))
 
 abbrev Inv-loop : tie.InvT-loop
-Inv-loop t w₀ s₀ curbs₀ low₀ high₀ near₀ far₀ n gain₀ r₀ w s curbs low high near far gain r =
-    (r ≤ n) × Part (table t) r w s curbs low high near far gain
+Inv-loop t w₀ s₀ curbs₀ low₀ high₀ n gain₀ r₀ w s curbs low high gain r =
+    (r ≤ n) × Part (table t) r w s curbs low high gain
 
 abbrev μ-loop : tie.MeasureT-loop
-μ-loop t w₀ s₀ curbs₀ low₀ high₀ near₀ far₀ n gain₀ r₀ w s curbs low high near far gain r = n - r
+μ-loop t w₀ s₀ curbs₀ low₀ high₀ n gain₀ r₀ w s curbs low high gain r = n - r
 
 loop-holds : tie.Need-loop-holds Inv-loop μ-loop
 unfolding sum
@@ -139,12 +129,11 @@ loop-holds c =
     let first = pre .0 in
     let second = pre .1 in (
       omega arith,
-      rw (first .0, first .1, first .2, second .0, second .1, second .2, second .3)
+      rw (first .0, first .1, first .2, second .0, second .1)
           (record {
             cells = (kept-none tb (tb .four), kept-none tb (tb .sort));
             curbing = grown-none 128 (names tb 3 2);
             entering = reached-none tb (asking tb);
-            touching = reached-none tb (moving tb);
             gains = refl;
             most = omega arith;
           }),
@@ -183,18 +172,12 @@ in-range c =
           ),
     )
 
-touch-requires : tie.Need-touch-requires Inv-loop μ-loop
-touch-requires c κs =
-    let then1 = c .before .before .before .before in
-    let w = in-range (then1 .before .before) .1 (then1 .if1 .taken) in
-    (w .1, w .0)
-
 cast-gain : tie.Need-cast-gain Inv-loop μ-loop
 cast-gain c = search needs
 
 add-gain : tie.Need-add-gain Inv-loop μ-loop
 add-gain c =
-    let then1 = c .before .before .before .before .before .before in
+    let then1 = c .before .before .before in
     let w = in-range (then1 .before .before) in
     omega (arith, w .0, w .1 (then1 .if1 .taken) .2, then1 .before .before .before .before .before .before .loop .inv .1 .most)
 
@@ -204,21 +187,15 @@ keep-requires c κs =
     let w = in-range (then1 .before .before) .1 (then1 .if1 .taken) in
     (w .0, w .1)
 
-touch-requires-2 : tie.Need-touch-requires-2 Inv-loop μ-loop
-touch-requires-2 c κs =
+touch-requires : tie.Need-touch-requires Inv-loop μ-loop
+touch-requires c κs =
     let then1 = c .before .before .before .before .before .before .before in
-    let w = in-range (then1 .before .before) .1 (then1 .if1 .taken) in
-    (w .1, w .0)
-
-touch-requires-3 : tie.Need-touch-requires-3 Inv-loop μ-loop
-touch-requires-3 c κs =
-    let then1 = c .before .before .before .before .before .before .before .before .before .before .before .before in
     let w = in-range (then1 .before .before) .1 (then1 .if1 .taken) in
     (w .1, w .0)
 
 curb-requires : tie.Need-curb-requires Inv-loop μ-loop
 curb-requires c κs =
-    let then1 = c .before .before .before .before .before .before .before .before .before .before .before in
+    let then1 = c .before .before .before .before .before .before .before .before .before in
     let w = in-range (then1 .before .before) .1 (then1 .if1 .taken) in
     (w .0, w .1)
 
@@ -247,27 +224,15 @@ loop-again c =
       omega arith,
       elim (c .if1 .came) [
         | inl w ↦
-            let sort : tb .sort r ≡ 3 = sym (reads .sort) ∙ w .2 .taken in
-            let puts : moving tb r ≡ true = rw (of-sort tb 3 r (kind (w .0 .taken)) sort) (or-true (arc tb 0 r)) in
-            rw (w .7, w .8, w .9, w .10, w .11, w .12, w .13, w .14)
-            (post-more tb r _ _ _ _ _ _ _ _ here (kind (w .0 .taken)) sort _ (reads .four) (range .1 (w .0 .taken) .2) _ _
-            (w .5 .ensures tb (moving tb) r (there tb (moving tb) r _ _ puts two one) (here .touching)))
+            rw (w .4, w .5, w .6, w .7, w .8, w .9)
+            (post-more tb r _ _ _ _ _ _ here (kind (w .0 .taken)) (sym (reads .sort) ∙ w .2 .taken) _ (reads .four) (range .1 (w .0 .taken) .2))
         | inr (inl w) ↦
-            let takes : moving tb r ≡ true = rw (of-sort tb 0 r (kind (w .0 .taken)) (sym (reads .sort) ∙ w .10 .taken)) in
-            rw (w .14, w .15, w .16, w .17, w .18, w .19, w .20, w .21)
-            (input-more tb r _ _ _ _ _ _ _ _ here (kind (w .0 .taken)) (λ z. w .2 .left (reads .sort ∙ z)) _ _
+            rw (w .11, w .12, w .13, w .14, w .15, w .16)
+            (input-more tb r _ _ _ _ _ _ here (kind (w .0 .taken)) (λ z. w .2 .left (reads .sort ∙ z)) _ _
             (w .5 .ensures tb r (an-input tb r _ _ (kind (w .0 .taken)) (low (w .0 .taken) (w .2 .left)) one two) (reads .four) (reads .sort) (here .cells .0) (here .cells .1)) _ _
-            (w .8 .ensures tb (asking tb) r (there tb (asking tb) r _ _ (asks (w .0 .taken) (w .2 .left)) two one) (here .entering)) _ _ _
-            (uncurbed tb r _ _ _ _ _ _ _ _ here (λ z. omega (arith, reads .sort, w .10 .taken)))
-            (w .13 .ensures tb (moving tb) r (there tb (moving tb) r _ _ takes two one) (here .touching)))
-        | inr (inr (inl w)) ↦
-            rw (w .13, w .14, w .15, w .16, w .17, w .18, w .19, w .20)
-            (input-more tb r _ _ _ _ _ _ _ _ here (kind (w .0 .taken)) (λ z. w .2 .left (reads .sort ∙ z)) _ _
-            (w .5 .ensures tb r (an-input tb r _ _ (kind (w .0 .taken)) (low (w .0 .taken) (w .2 .left)) one two) (reads .four) (reads .sort) (here .cells .0) (here .cells .1)) _ _
-            (w .8 .ensures tb (asking tb) r (there tb (asking tb) r _ _ (asks (w .0 .taken) (w .2 .left)) two one) (here .entering)) _ _ _
-            (w .12 .ensures tb r (kind (w .0 .taken)) one two (reads .sort) (here .curbing))
-            (untouched tb r _ _ _ _ _ _ _ _ here (λ z. w .10 .left (reads .sort ∙ z)) (λ z. w .2 .left (reads .sort ∙ z))))
-        | inr (inr (inr w)) ↦ rw (w .1, w .2, w .3, w .4, w .5, w .6, w .7, w .8) (no-arc-more tb r _ _ _ _ _ _ _ _ here (λ z. w .0 .left (reads .kind ∙ z)))
+            (w .8 .ensures tb (asking tb) r (there tb (asking tb) r _ _ (asks (w .0 .taken) (w .2 .left)) two one) (here .entering)) _
+            (w .10 .ensures tb r (kind (w .0 .taken)) one two (reads .sort) (here .curbing)))
+        | inr (inr w) ↦ rw (w .1, w .2, w .3, w .4, w .5, w .6) (no-arc-more tb r _ _ _ _ _ _ here (λ z. w .0 .left (reads .kind ∙ z)))
       ],
     )
 
@@ -277,11 +242,11 @@ returns c =
     let at = c .before .loop in
     let bs = c .before .before .before .args .t .now in
     let done = all-read bs (at .r) (at .inv .0) (c .loop-test .left) in
-    let part : ℕ → Type 0 = λ k. Part (table bs) k (at .w) (at .s) (at .curbs) (at .low) (at .high) (at .near) (at .far) (at .gain) in
+    let part : ℕ → Type 0 = λ k. Part (table bs) k (at .w) (at .s) (at .curbs) (at .low) (at .high) (at .gain) in
     let all = subst part done (at .inv .1) in
     let low : at .gain ≤ 67107840 = omega (arith, all .most, few-records bs (c .before .before .before .pre .0)) in (
       (record { holds = all .cells .0 .holds }, record { holds = all .cells .1 .holds }),
-      (gathered (table bs) 3 2 (all .curbing), (all .entering, (all .touching, (all .gains, low)))),
+      (gathered (table bs) 3 2 (all .curbing), (all .entering, (all .gains, low))),
     )
 
 pub lay-arcs-spec : {M : Type 1} → statement M
@@ -294,12 +259,10 @@ lay-arcs-spec =
     read-requires
     wide-requires
     wide-requires-2
-    touch-requires
     cast-gain
     add-gain
     keep-requires
-    touch-requires-2
-    touch-requires-3
+    touch-requires
     curb-requires
     add-r
     loop-less

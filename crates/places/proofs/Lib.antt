@@ -1,3 +1,0 @@
--- A set of places in two words, and a walk over its places.
-pub mod Halves
-pub mod Going

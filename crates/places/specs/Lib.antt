@@ -1,2 +1,0 @@
--- What a set of places has.
-pub mod Set

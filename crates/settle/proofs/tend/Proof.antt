@@ -1,0 +1,47 @@
+-- The rows move to the level of the new tokens; the rest is no more than those, so from the first number of that level on the rows span it too.
+use mathlib.Core.Bool.{or-false}
+use mathlib.Core.Path.{sym}
+use Prim.Native.Nat.{_+_}
+use native.Mathlib.Omega.{arith}
+use lib.ListN.{getD}
+use Rattle.meaning.specs.Bytes.{bit}
+use Rattle.meaning.proofs.Bool.{and-left}
+use borrow.Author.Needs.{needs}
+use Rattle.settle.proofs.Tended.{spans-plain}
+use Rattle.settle.proofs.tend.Statement.{statement}
+use Rattle.settle.proofs.tend.Tie as tie
+
+mul-fell : tie.Need-mul-fell
+mul-fell c = search needs
+
+element-copy-out-fell : tie.Need-element-copy-out-fell
+element-copy-out-fell c = search needs
+
+shift-requires : tie.Need-shift-requires
+shift-requires c κs =
+    let pre = c .before .before .before .before .before .pre in
+    ((pre .0 .0, omega (arith, pre .0 .3)), (pre .1 .0, (pre .1 .1 .0, pre .1 .1 .1)))
+
+starved-requires : tie.Need-starved-requires
+starved-requires c κs =
+    let start = c .before .before .before .before .before .before .before .before .before in
+    let pre = start .pre in
+    let place = pre .0 .0 in
+    let moved = c .before .before .before .shift .ensures in (
+      (place, pre .0 .1),
+      (
+        λ t l e. pre .1 .0 .1 .least _ t place l (and-left (bit (getD (start .args .index .now) (192 + start .args .p) 0) t) _ e),
+        λ low. spans-plain (pre .1 .0 .0) (moved .spans) place _ low (omega (arith, pre .0 .2, moved .inside .1)),
+      ),
+    )
+
+returns : tie.Need-returns
+returns c = (λ t l. rw (c .before .before .before .if1 .taken) (c .starved .ensures t l), c .before .before .before .before .shift .ensures)
+
+returns-2 : tie.Need-returns-2
+returns-2 c = (λ t l. rw (c .if1 .left) (sym (or-false _)), c .before .shift .ensures)
+
+pub tend-spec : {M : Type 1} → statement M
+tend-spec =
+    tie.close
+    (tie.spec mul-fell element-copy-out-fell shift-requires starved-requires returns returns-2)
