@@ -2,14 +2,16 @@
 use mathlib.Core.Bool.{Bool, true, false, cond, not, _&&_, _||_, and-false}
 use mathlib.Core.List.{List}
 use mathlib.Core.Path.{_≡_, refl, sym, _∙_}
-use Prim.Native.Nat.{ℕ, zero, suc, _+_, _*_, _≤_, _<_}
+use Prim.Native.Nat.{ℕ, zero, suc, _+_, _*_, _^_, _≤_, _<_}
+use native.Mathlib.Nat.{lt-of-not-le}
 use native.Mathlib.Omega.{arith}
 use lib.Dec.{eqb}
-use lib.ListN.{getD}
+use lib.ListN.{length, getD}
 use borrow.Author.Tests.{ne-eqb}
 use Rattle.meaning.specs.Bytes.{bit}
 use Rattle.meaning.specs.Table.{Table, table, is}
-use Rattle.meaning.proofs.Bool.{or-true-right}
+use Rattle.meaning.proofs.Bool.{or-true-right, not-both}
+use Rattle.sets.proofs.Bits.{bit-zero, same-set}
 use Rattle.meaning.specs.Priority.{through, above as stands-above}
 use Rattle.net.specs.Rows.{Gathered, Blank-from, Weights, Sorts}
 use Rattle.net.specs.Chains.{Enters}
@@ -26,7 +28,7 @@ use Rattle.edges.specs.Edges.{Limits}
 use Rattle.fire.specs.Rivals.{Rivals}
 use Rattle.cycle.specs.Step.{Net-of}
 use Rattle.cycle.proofs.Facts.{arcs, input-once, fine}
-use Rattle.course.specs.Course.{Read}
+use Rattle.course.specs.Course.{Read, Housing}
 
 -- Whoever is the lower one in no pair has nobody above it.
 unnamed : (tb : Table) (n u t : ℕ) → ((r : ℕ) → r < n → is tb 5 r ≡ true → ¬ (tb .two r ≡ t)) → through tb n u t ≡ false
@@ -45,16 +47,16 @@ module _ {bs : List ℕ} {x : Intervals} {index higher takers truths heads next 
   clean : Clean (table bs) index
   clean = record { fine = fine bs (read .sound); index = read .index-holds }
 
-  pub net-of : (known : ℕ) → ((t : ℕ) → t < 64 → bit known t ≡ bit (getD index (128 + t) 0) 0)
+  pub net-of : (known : ℕ) → ((t : ℕ) → t < 64 → bit known t ≡ bit (getD index (8 * t + 1) 0) 0)
       → (timed : ℕ) → ((t : ℕ) → t < 64 → bit timed t ≡ not (eqb (getD (x .sorts) t 0) 0))
-      → (conditional : ℕ) → ((t : ℕ) → t < 64 → bit conditional t ≡ not (eqb (getD index (448 + t) 0) 0))
-      → (n : ℕ) → Empty-from index n × (n ≤ reach) → (eights : ℕ) → (reach ≤ 8 * eights) × (8 * eights ≤ 128) → (limit last : List ℕ) → Limits x limit last
+      → ((q : ℕ) → getD index q 0 < 2 ^ 64) → (conditional : ℕ) → ((t : ℕ) → t < 64 → bit conditional t ≡ not (eqb (getD index (8 * t + 4) 0) 0))
+      → (n : ℕ) → Empty-from index n × (n ≤ reach) → (eights : ℕ) → (reach ≤ 8 * eights) × (8 * eights ≤ reach + 7) × (8 * eights ≤ 128) → (limit last : List ℕ) → Limits x limit last
       → (low high : List ℕ) → Enters (table bs) (table bs .records) low high
       → (rivals : List ℕ) (lower : ℕ) → Rivals higher takers low high rivals lower
-      → (w s : List (List ℕ)) → Weights (table bs) w → Sorts (table bs) s → (curbs : List ℕ) → Gathered (table bs) 3 2 curbs
+      → (w s : List (List ℕ)) → Weights (table bs) w → Sorts (table bs) s → Housing reach (length w) → length s ≡ length w → (curbs : List ℕ) → Gathered (table bs) 3 2 curbs
       → Net-of bs known timed conditional lower eights x limit last index rivals w s takers low high curbs heads next truths
-  net-of known known-is timed timed-is conditional conditional-is n empty eights fill limit last limits low high entering rivals lower rivals-are w s weights sorts curbs
-      curbing =
+  net-of known known-is timed timed-is words conditional conditional-is n empty eights fill limit last limits low high entering rivals lower rivals-are w s weights sorts
+      housing alike curbs curbing =
       let inputs : Inputs-of index (record { low = low; high = high }) = inputs-hold (table bs) index clean (arcs bs (read .sound)) entering in
       record {
         sound = read .sound;
@@ -71,8 +73,25 @@ module _ {bs : List ℕ} {x : Intervals} {index higher takers truths heads next 
         sorts = sorts;
         takers-hold = read .takers-hold;
         inputs = inputs;
-        within = empty-past (empty .0) (omega (arith, empty .1, fill .0)) (fill .1);
+        within = empty-past (empty .0) (omega (arith, empty .1, fill .0)) (fill .2);
         below = λ r l. omega (arith, read .below r l .0, fill .0);
+        asked-low = λ t h e.
+            lt-of-not-le
+            (λ (far : 8 * eights ≤ t).
+            let none : getD index (8 * t + 4) 0 ≡ 0 =
+            same-set _ 0 (words _) (omega arith) (λ y l. read .reaches .no-row 4 t y (omega arith) (omega (arith, far, fill .0)) h l ∙ sym (bit-zero y)) in
+            not-both e (conditional-is t h ∙ rw none));
+        rooms =
+            let rows : 8 * eights ≤ length w = omega (arith, fill .1, housing .whole, housing .enough) in
+            let numbers : 8 * eights ≤ length takers = omega (arith, fill .1, read .housing .whole, read .housing .enough) in
+            record {
+              index-rows = omega (arith, numbers, read .index-long);
+              weight-rows = rows;
+              sort-rows = omega (arith, rows, alike);
+              taker-rows = numbers;
+              truth-rows = omega (arith, numbers, read .truths-long);
+            };
+        links = read .links;
         curbed = curbed (table bs) index clean (arcs bs (read .sound)) w s _ weights sorts inputs (input-once bs (read .sound)) curbs curbing;
         chains = read .chains;
         truths-hold = read .truths-hold;
@@ -95,5 +114,5 @@ module _ {bs : List ℕ} {x : Intervals} {index higher takers truths heads next 
       → (getD (x .sorts) t 0 ≡ 0) × (getD (x .a) t 0 ≡ 0) × (getD (x .b) t 0 ≡ 0)
   timeless k e t l h = untimed (read .times) (λ r i. read .below r i .0) t (past-transitions reach t (omega (arith, e)) h) h
 
-  pub unasked : (k : ℕ) → k ≡ transitions-below reach → (t y : ℕ) → k ≤ t → t < 64 → y < 64 → bit (getD index (448 + t) 0) y ≡ false
+  pub unasked : (k : ℕ) → k ≡ transitions-below reach → (t y : ℕ) → k ≤ t → t < 64 → y < 64 → bit (getD index (8 * t + 4) 0) y ≡ false
   unasked k e t y l h = read .reaches .no-row 4 t y (omega arith) (past-transitions reach t (omega (arith, e)) h) h

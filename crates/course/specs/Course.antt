@@ -22,7 +22,13 @@ use Rattle.image.specs.Held.{Small, held}
 use Rattle.course.specs.declared.Halted.{Halted}
 use Rattle.course.specs.declared.Ended.{Ended}
 
--- The bytes spell an accepted table, whose places and transitions are below n, and the rows are its own.
+-- So many rows, in whole eights, are enough for every number below n.
+pub record Housing (n rows : ℕ) : Type 0 where
+  pub eighths : ℕ
+  pub whole : rows ≡ 8 * eighths
+  pub enough : n ≤ rows
+
+-- The bytes spell an accepted table, whose places and transitions are below n, and the rows are its own, with room for every number.
 pub record Read (bs : List ℕ) (x : Intervals) (index higher takers truths heads next : List ℕ) (n : ℕ) : Type 0 where
   pub sound : check bs ≡ accepted 0
   pub index-holds : Indexed (table bs) (table bs .records) index
@@ -33,6 +39,10 @@ pub record Read (bs : List ℕ) (x : Intervals) (index higher takers truths head
   pub takers-hold : Gathered (table bs) 3 0 takers
   pub truths-hold : Gathered (table bs) 4 0 truths
   pub chains : Chained (table bs) heads next
+  pub housing : Housing n (length takers)
+  pub index-long : length index ≡ 8 * length takers
+  pub truths-long : length truths ≡ length takers
+  pub links : table bs .records ≤ length next
 
 -- The image fits the table, the words are not too many, and the report has room for every one.
 pub record Ready (bs img ws report : List ℕ) : Type 0 where

@@ -1,16 +1,15 @@
 // The cycles of a call: one a word, from the image that is lent into the report that is lent.
-use timing::Intervals;
 ghost use mathlib.Core.Bool.{cond};
 ghost use mathlib.Core.Path.{_≡_};
 ghost use lib.Dec.{eqb};
-ghost use Prim.Native.Nat.{ℕ, _+_, _≤_, _<_};
+ghost use Prim.Native.Nat.{ℕ, _+_, _*_, _≤_, _<_};
 ghost use lib.ListN.{length, getD, replicate};
 ghost use Rattle.meaning.specs.Table.{table, total, arc};
 ghost use Rattle.meaning.specs.Image.{image-bytes};
 ghost use Rattle.image.specs.Held.{Small, held};
 ghost use Rattle.enabled.specs.Held.{Empty-from};
 ghost use Rattle.cycle.specs.Step.{Net-of, Sized};
-ghost use Rattle.course.specs.Course.{Read, Ready, Halts, Ends};
+ghost use Rattle.course.specs.Course.{Read, Ready, Housing, Halts, Ends};
 
 // How the words came to their end: the reset orders then, number and where, and the finished cycles.
 struct Halted {
@@ -85,20 +84,20 @@ fn cycles(
     b: &[u16; 64],
     limit: &[u32; 64],
     last: &[u32; 64],
-    index: &[u64; 768],
+    index: &[u64],
     rivals: &[u64; 64],
-    w: &[[u16; 64]; 128],
-    s: &[[u8; 64]; 128],
-    takers: &[u64; 128],
+    w: &[[u16; 64]],
+    s: &[[u8; 64]],
+    takers: &[u64],
     low: &[u64; 64],
     high: &[u64; 64],
     curbs: &[u64; 128],
     heads: &[u16; 256],
-    next: &[u16; 1024],
-    truths: &[u64; 128],
+    next: &[u16],
+    truths: &[u64],
 ) -> Halted
     requires { ⌜ Net-of (now t) known timed conditional lower eights (record { sorts = now sorts; a = now a; b = now b }) (now limit) (now last) (now index) (now rivals) (now w) (now s) (now takers) (now low) (now high) (now curbs) (now heads) (now next) (now truths) ⌝ }
-    requires { ⌜ Empty-from (now index) n ⌝ }
+    requires { ⌜ Empty-from (now index) n × (n ≤ 8 * eights) ⌝ }
     requires { ⌜ gain ≡ total (table (now t)) (arc (table (now t)) 3) (table (now t) .four) ⌝ }
     requires { ⌜ gain ≤ 67107840 ⌝ }
     requires { ⌜ Sized (now tokens) (now counters) ⌝ }
@@ -108,6 +107,7 @@ fn cycles(
     let count = words.len() / 8;
     let mut orders = image::load(image, tokens, counters);
     let mut held = [0u64; 128];
+    let mut lacks = [0u64; 128];
     let mut shown = [0u64; 128];
     let mut from = [0u32; 128];
     let mut upto = [2147483647u32; 128];
@@ -119,6 +119,7 @@ fn cycles(
         s,
         n,
         &mut held,
+        &mut lacks,
         &mut shown,
         &mut from,
         &mut upto,
@@ -139,6 +140,7 @@ fn cycles(
             counters,
             &mut before,
             &mut held,
+            &mut lacks,
             &mut shown,
             &mut from,
             &mut upto,
@@ -205,26 +207,30 @@ fn keep(image: &mut [u8], tokens: &[u32; 128], counters: &[u32; 64], orders: u64
 }
 
 // The cycles of a call whose checks are passed: what the rows leave out is made of them, then one cycle a word, then the image is written. No number of a
-// place or a transition is at the reach or past it; `higher` has those above each transition. The arrays for the input arcs are lent empty.
+// place or a transition is at the reach or past it; `higher` has those above each transition. The arrays for the input arcs are lent empty, with
+// a row for every place below the reach.
 pub fn course(
     t: &[u8],
     image: &mut [u8],
     words: &[u8],
     report: &mut [u8],
-    x: Intervals,
-    index: &[u64; 768],
+    sorts: &[u8; 64],
+    a: &[u16; 64],
+    b: &[u16; 64],
+    index: &[u64],
     higher: &[u64; 64],
-    w: &mut [[u16; 64]; 128],
-    s: &mut [[u8; 64]; 128],
-    takers: &[u64; 128],
-    truths: &[u64; 128],
+    w: &mut [[u16; 64]],
+    s: &mut [[u8; 64]],
+    takers: &[u64],
+    truths: &[u64],
     heads: &[u16; 256],
-    next: &[u16; 1024],
+    next: &[u16],
     reach: usize,
 ) -> Ended
-    requires { ⌜ Read (now t) x (now index) (now higher) (now takers) (now truths) (now heads) (now next) reach ⌝ }
-    requires { ⌜ now w ≡ replicate 128 (replicate 64 0) ⌝ }
-    requires { ⌜ now s ≡ replicate 128 (replicate 64 0) ⌝ }
+    requires { ⌜ Read (now t) (record { sorts = now sorts; a = now a; b = now b }) (now index) (now higher) (now takers) (now truths) (now heads) (now next) reach ⌝ }
+    requires { ⌜ now w ≡ replicate (length (now w)) (replicate 64 0) ⌝ }
+    requires { ⌜ now s ≡ replicate (length (now w)) (replicate 64 0) ⌝ }
+    requires { ⌜ Housing reach (length (now w)) ⌝ }
     requires { ⌜ Ready (now t) (now image) (now words) (now report) ⌝ }
     ensures { λ e. ⌜ Ends (now (t .entry)) (now (image .entry)) (now (words .entry)) (now (report .entry)) e (now (image .exit)) (now (report .exit)) ⌝ }
 {
@@ -238,14 +244,11 @@ pub fn course(
     let n = enabled::bound(index, reach);
     let eights = enabled::eights(reach);
     let known = enabled::known(index, reach);
-    let timed = enabled::timed(x, fewer);
+    let timed = enabled::timed(sorts, fewer);
     let conditional = edges::conditional(index, fewer);
-    let sorts = x.sorts;
-    let a = x.a;
-    let b = x.b;
     let mut limit = [0u32; 64];
     let mut last = [0u32; 64];
-    edges::limits(&mut limit, &mut last, &sorts, &a, &b, fewer);
+    edges::limits(&mut limit, &mut last, sorts, a, b, fewer);
     let mut tokens = [0u32; 128];
     let mut counters = [0u32; 64];
     let e = cycles(
@@ -262,9 +265,9 @@ pub fn course(
         n,
         eights,
         gain,
-        &sorts,
-        &a,
-        &b,
+        sorts,
+        a,
+        b,
         &limit,
         &last,
         index,

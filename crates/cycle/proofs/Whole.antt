@@ -3,6 +3,7 @@ use mathlib.Core.Bool.{Bool, true, false, cond, not, _&&_, _||_}
 use mathlib.Core.List.{List}
 use mathlib.Core.Path.{_≡_, refl, sym, ap, _∙_, fun-ext}
 use Prim.Native.Nat.{ℕ, _+_, _-_, _*_, _^_, _≤_, _<_}
+use native.Mathlib.Nat.{lt-of-not-le}
 use native.Mathlib.Omega.{arith}
 use lib.Dec.{ltb, eqb}
 use lib.ListN.{length, getD}
@@ -11,27 +12,30 @@ use Rattle.meaning.specs.Below.{some, first, within}
 use Rattle.meaning.specs.Bytes.{bit}
 use Rattle.meaning.specs.Table.{table, total, arc, transition, timing, ceiling}
 use Rattle.meaning.specs.Cycle.{enabled, counted, falling, firable, withdrawn, added, fired, rising, marked, reset, executed, overfull}
+use Rattle.meaning.proofs.Bool.{and-left, and-right, not-both}
+use Rattle.meaning.proofs.Rows.{transition-decides}
 use Rattle.meaning.proofs.Below.{some-same, first-same, first-none}
 use Rattle.meaning.proofs.Accepted.{accepted-well}
 use Rattle.meaning.proofs.Demand3.{start-pays}
+use Rattle.sets.proofs.Bits.{bit-zero, bit-under}
 use Rattle.table.proofs.Carry.{Clean}
 use Rattle.timing.specs.declared.Intervals.{Intervals}
 use Rattle.timing.proofs.Carry.{sort-is}
 use Rattle.image.specs.declared.Held.{Held}
 use Rattle.image.specs.Held.{held, Holds, Small}
 use Rattle.enabled.specs.Inputs.{enabled-by}
-use Rattle.enabled.specs.Held.{Weighty, Levels}
+use Rattle.enabled.specs.Held.{Weighty, Levels, Wanting}
 use Rattle.enabled.proofs.Carry.{enabled-same, arc-cell, held-same, shown-same}
 use Rattle.edges.specs.Edges.{fallen, fallen-at, Falls, firable-at}
 use Rattle.edges.proofs.Carry.{fallen-same, timely-same, truths-looked, asked-same}
 use Rattle.moves.specs.declared.Moved.{Moved}
 use Rattle.moves.specs.Moves.{moved-at}
-use Rattle.moves.specs.Tallied.{Tallied, moved-by, lacking}
+use Rattle.moves.specs.Tallied.{Tallied, moved-by}
 use Rattle.moves.proofs.Carry.{withdrawn-same, taken-is, put-is, some-moved, none-past, gain-covers}
 use Rattle.moves.proofs.Sums.{load-most}
 use Rattle.moves.proofs.Turns.{in-range}
 use Rattle.net.proofs.Arcs.{few-records}
-use Rattle.fire.specs.Fired.{Ranks, Fires}
+use Rattle.fire.specs.Fired.{Ranks, Fires, Housed}
 use Rattle.fire.proofs.Carry.{well-ranks, fires-is, rivals-rank, rivals-suffice}
 use Rattle.settle.specs.Settle.{new-at, Low, Paid, Still, Lacks, Crowded, Settled, Starves}
 use Rattle.settle.proofs.Carry.{starves-same}
@@ -58,7 +62,7 @@ module _ {bs : List ℕ} {known timed conditional lower eights : ℕ} {x : Inter
   timed-bit t l = net .timed-is t l ∙ ap (λ (k : ℕ). not (eqb k 0)) (sort-is (table bs) (sound bs (net .sound)) x (net .times) t l)
 
   -- What is wanted true is looked at.
-  pub wanted-looked : (t k : ℕ) → t < 64 → k < 64 → bit (getD truths t 0) k ≡ true → bit (getD index (448 + t) 0) k ≡ true
+  pub wanted-looked : (t k : ℕ) → t < 64 → k < 64 → bit (getD truths t 0) k ≡ true → bit (getD index (8 * t + 4) 0) k ≡ true
   wanted-looked t k h l = truths-looked (table bs) index truths clean (net .truths-hold) t h k l
 
   -- Every input arc has a weight.
@@ -69,6 +73,38 @@ module _ {bs : List ℕ} {known timed conditional lower eights : ℕ} {x : Inter
             arc-cell (table bs) w s index (record { low = low; high = high }) (net .weights) (net .sorts) clean (net .inputs) (arcs bs (net .sound))
             (input-once bs (net .sound)) t l p h e .0;
       }
+
+  -- Each place of a transition's input arcs has its row.
+  pub housed : (t : ℕ) → t < 64
+      → Housed (length w) (getD low t 0) (getD high t 0) × Housed (length s) (getD low t 0) (getD high t 0) × Housed (length takers) (getD low t 0) (getD high t 0)
+  housed t h = (rows (length w) (net .rooms .weight-rows), rows (length s) (net .rooms .sort-rows), rows (length takers) (net .rooms .taker-rows))
+    where
+      near : (p : ℕ) → p < 128 → bit (getD index (8 * p + 2) 0) t ≡ true → p < 8 * eights
+      near p l e = lt-of-not-le (λ (far : 8 * eights ≤ p). not-both e (ap (λ (z : ℕ). bit z t) (net .within .no-arc p far l) ∙ bit-zero t))
+
+      rows : (n : ℕ) → 8 * eights ≤ n → Housed n (getD low t 0) (getD high t 0)
+      rows n room =
+          record {
+            low-in = λ k l e. omega (arith, room, near k (omega arith) (sym (net .inputs .low t k h l) ∙ e));
+            high-in = λ k l e. omega (arith, room, near (64 + k) (omega arith) (sym (net .inputs .high t k h l) ∙ e));
+          }
+
+  -- The conditions of a transition, and the functions of one that fires, have their rows.
+  pub asked-rows : (t : ℕ) → t < 64 → bit conditional t ≡ true → (8 * t + 4 < length index) × (t < length truths)
+  asked-rows t h e =
+      let low : t < 8 * eights = net .asked-low t h e in
+      (omega (arith, low, net .rooms .index-rows), omega (arith, low, net .rooms .truth-rows))
+
+  pub fired-rows : (able on shut f : ℕ) (counters : List ℕ) (word : ℕ) → ((t : ℕ) → bit on t ≡ (bit known t && not (bit shut t)))
+      → ((t : ℕ) → bit able t ≡ (ltb t 64 && firable-at x counters on index truths word t)) → (m : List ℕ) → Fires able rivals m w s takers low high f → f < 2 ^ 64
+      → (u : ℕ) → bit f u ≡ true → 8 * u + 7 < length index
+  fired-rows able on shut f counters word on-is able-is m fires small u e =
+      let l : u < 64 = bit-under f u small e in
+      let is-able : bit able u ≡ true = and-left (bit able u) _ (sym (fires .meets u l) ∙ e) in
+      let is-on : bit on u ≡ true = and-left (bit on u) _ (and-left (bit on u && _) _ (and-right (ltb u 64) _ (sym (able-is u) ∙ is-able))) in
+      let is-known : bit known u ≡ true = and-left (bit known u) _ (sym (on-is u) ∙ is-on) in
+      let w = transition-decides (table bs) u .0 (sym (net .known-is u l) ∙ is-known) in
+      omega (arith, net .below (w .0) (w .1), w .3, net .rooms .index-rows)
 
   enables : (m : List ℕ) (t : ℕ) → t < 64 → enabled-by m w s (getD low t 0) (getD high t 0) t ≡ enabled (table bs) (λ p. getD m p 0) t
   enables m t h =
@@ -89,7 +125,7 @@ module _ {bs : List ℕ} {known timed conditional lower eights : ℕ} {x : Inter
 
   -- What the parts of a cycle with a word have told, from the state that h holds and what is kept of its places: the counters after the falling
   -- edge, the set f that fires, what it takes and puts, where, and its functions.
-  pub record Told (h : Held) (word : ℕ) (stopped shown from upto counters : List ℕ) (f : ℕ) (taken put : List ℕ) (moved : Moved) : Type 0 where
+  pub record Told (h : Held) (word : ℕ) (stopped wants shown from upto counters : List ℕ) (f : ℕ) (taken put : List ℕ) (moved : Moved) : Type 0 where
     pub small : Small h
     pub levels : Levels index w s (h .tokens) stopped shown from upto
     pub shut : ℕ
@@ -101,17 +137,17 @@ module _ {bs : List ℕ} {known timed conditional lower eights : ℕ} {x : Inter
     pub able-is : (t : ℕ) → bit able t ≡ (ltb t 64 && firable-at x counters on index truths word t)
     pub low-set : f < 2 ^ 64
     pub fires : Fires able rivals (h .tokens) w s takers low high f
-    pub tallied : Tallied (table bs) f stopped curbs index taken put moved
+    pub tallied : Tallied (table bs) f wants index taken put moved
 
-  module _ {h : Held} {word : ℕ} {stopped shown from upto counters : List ℕ} {f : ℕ} {taken put : List ℕ} {moved : Moved}
-      (told : Told h word stopped shown from upto counters f taken put moved) where
+  module _ {h : Held} {word : ℕ} {stopped wants shown from upto counters : List ℕ} {f : ℕ} {taken put : List ℕ} {moved : Moved}
+      (told : Told h word stopped wants shown from upto counters f taken put moved) where
     abbrev small : Small h
     small = told .small
 
     abbrev on : ℕ
     on = told .on
 
-    abbrev tallied : Tallied (table bs) f stopped curbs index taken put moved
+    abbrev tallied : Tallied (table bs) f wants index taken put moved
     tallied = told .tallied
 
     -- The set of the enabled has the enabled transitions.
@@ -174,10 +210,10 @@ module _ {bs : List ℕ} {known timed conditional lower eights : ℕ} {x : Inter
     one-set = fun-ext fired-bit
 
     is-taken : (p : ℕ) → p < 128 → getD taken p 0 ≡ withdrawn (table bs) (bit f) p
-    is-taken = taken-is (table bs) f stopped curbs index taken put moved tallied
+    is-taken = taken-is (table bs) f wants index taken put moved tallied
 
     is-put : (p : ℕ) → p < 128 → getD put p 0 ≡ added (table bs) (bit f) p
-    is-put = put-is (table bs) f stopped curbs index taken put moved tallied
+    is-put = put-is (table bs) f wants index taken put moved tallied
 
     -- The tokens pay for what is taken (demand 3), and past the eights nothing is taken or put.
     pub paid : Paid (h .tokens) taken
@@ -199,13 +235,13 @@ module _ {bs : List ℕ} {known timed conditional lower eights : ℕ} {x : Inter
         }
 
     -- Something is taken exactly at the places of the fired ones' basic arcs.
-    pub lacks : Lacks taken stopped curbs (moved .lack)
+    pub lacks : Lacks taken wants (moved .lack)
     lacks =
         record {
           holds = λ t l.
               tallied .lack-is t
               ∙ some-same 128 _ _
-              (λ p k. ap (λ (b : Bool). b && lacking stopped curbs p t) (some-moved bs (net .sound) 0 (bit f) p ∙ ap (ltb 0) (sym (tallied .taken-is p k))));
+              (λ p k. ap (λ (b : Bool). b && bit (getD wants p 0) t) (some-moved bs (net .sound) 0 (bit f) p ∙ ap (ltb 0) (sym (tallied .taken-is p k))));
         }
 
     abbrev new : ℕ → ℕ
@@ -252,11 +288,12 @@ module _ {bs : List ℕ} {known timed conditional lower eights : ℕ} {x : Inter
       topped-still ceiling under p l = rw (settled .tokens p l) (topped ceiling under p l)
 
       -- What was taken and put is done with.
-      pub poised : {held shown from upto left marks : List ℕ} → Levels index w s tokens held shown from upto → (length left ≡ 128) × (length marks ≡ 128)
-          → Poised index w s tokens held shown from upto taken′ put′ left marks
-      poised again room =
+      pub poised : {held lacks shown from upto left marks : List ℕ} → Levels index w s tokens held shown from upto → (length left ≡ 128) × (length marks ≡ 128)
+          → Wanting held curbs lacks → Poised index w s curbs tokens held lacks shown from upto taken′ put′ left marks
+      poised again room wanting =
           record {
             levels = again;
+            wanting = wanting;
             none-taken = record { size = settled .sizes .1; none = settled .no-taken };
             none-put = record { size = settled .sizes .2; none = settled .no-put };
             room = room;

@@ -1,5 +1,5 @@
 -- The rows of an accepted table, and one cycle over them.
-use mathlib.Core.Bool.{not}
+use mathlib.Core.Bool.{true, not}
 use mathlib.Core.List.{List}
 use mathlib.Core.Path.{_≡_}
 use Prim.Native.Nat.{ℕ, _+_, _*_, _≤_, _<_}
@@ -17,7 +17,7 @@ use Rattle.net.specs.Links.{Chained}
 use Rattle.timing.specs.declared.Intervals.{Intervals}
 use Rattle.timing.specs.Times.{Times-of}
 use Rattle.enabled.specs.Inputs.{Inputs-of}
-use Rattle.enabled.specs.Held.{Empty-from, Curbed, Levels}
+use Rattle.enabled.specs.Held.{Empty-from, Curbed, Levels, Wanting}
 use Rattle.edges.specs.Edges.{Limits}
 use Rattle.moves.specs.Tallied.{Unmoved}
 use Rattle.fire.specs.Rivals.{Rivals}
@@ -26,7 +26,15 @@ use Rattle.image.specs.declared.Held.{Held}
 use Rattle.image.specs.Held.{held, Holds}
 use Rattle.cycle.specs.declared.Outcome.{Outcome}
 
--- The rows are those of the accepted table that the bytes spell, whose places fill so many eights. The rivals of a transition are of those above it, whose
+-- Each array has a row for every place and transition of these eights, and the index eight.
+pub record Rooms (eights : ℕ) (index : List ℕ) (w s : List (List ℕ)) (takers truths : List ℕ) : Type 0 where
+  pub index-rows : 8 * (8 * eights) ≤ length index
+  pub weight-rows : 8 * eights ≤ length w
+  pub sort-rows : 8 * eights ≤ length s
+  pub taker-rows : 8 * eights ≤ length takers
+  pub truth-rows : 8 * eights ≤ length truths
+
+-- The rows are those of the accepted table that the bytes spell, whose numbers fill so many eights. The rivals of a transition are of those above it, whose
 -- rows are `higher`.
 pub record Net-of (bs : List ℕ) (known timed conditional lower eights : ℕ) (x : Intervals) (limit last index rivals : List ℕ)
     (w s : List (List ℕ)) (takers low high curbs heads next truths : List ℕ) : Type 0 where
@@ -34,7 +42,8 @@ pub record Net-of (bs : List ℕ) (known timed conditional lower eights : ℕ) (
   pub index-holds : Indexed (table bs) (table bs .records) index
   pub known-is : (t : ℕ) → t < 64 → bit known t ≡ transition (table bs) t
   pub timed-is : (t : ℕ) → t < 64 → bit timed t ≡ not (eqb (getD (x .sorts) t 0) 0)
-  pub conditional-is : (t : ℕ) → t < 64 → bit conditional t ≡ not (eqb (getD index (448 + t) 0) 0)
+  pub conditional-is : (t : ℕ) → t < 64 → bit conditional t ≡ not (eqb (getD index (8 * t + 4) 0) 0)
+  pub asked-low : (t : ℕ) → t < 64 → bit conditional t ≡ true → t < 8 * eights
   pub times : Times-of (table bs) x
   pub limits : Limits x limit last
   pub higher : List ℕ
@@ -46,13 +55,16 @@ pub record Net-of (bs : List ℕ) (known timed conditional lower eights : ℕ) (
   pub inputs : Inputs-of index (record { low = low; high = high })
   pub within : Empty-from index (8 * eights)
   pub below : (r : ℕ) → r < table bs .records → table bs .one r < 8 * eights
+  pub rooms : Rooms eights index w s takers truths
+  pub links : table bs .records ≤ length next
   pub curbed : Curbed index s curbs
   pub chains : Chained (table bs) heads next
   pub truths-hold : Gathered (table bs) 4 0 truths
 
 -- What is kept of each place spans its tokens, and nothing is taken or put yet; the two rows to work with have a place each for every place.
-pub record Poised (index : List ℕ) (w s : List (List ℕ)) (tokens held shown from upto taken put left marks : List ℕ) : Type 0 where
+pub record Poised (index : List ℕ) (w s : List (List ℕ)) (curbs tokens held lacks shown from upto taken put left marks : List ℕ) : Type 0 where
   pub levels : Levels index w s tokens held shown from upto
+  pub wanting : Wanting held curbs lacks
   pub none-taken : Unmoved taken
   pub none-put : Unmoved put
   pub room : (length left ≡ 128) × (length marks ≡ 128)

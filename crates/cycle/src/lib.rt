@@ -26,7 +26,7 @@ fn keep(before: &mut [u32; 64], counters: &[u32; 64], ceiling: u32)
 
 // One cycle of the table t, whose rows the other arguments are, from the state of these tokens, counters and orders, with a word. The tokens and
 // counters become those after the cycle, and stay as they are where a place would be overfull. What is kept of each place (whom its tokens hold
-// back, what they show, and their level) goes on to the next cycle; what is taken and put is lent empty, and is empty again after a cycle that is
+// back, who lacks tokens there, what they show, and their level) goes on to the next cycle; what is taken and put is lent empty, and is empty again after a cycle that is
 // not refused. No place comes above the ceiling, whatever fires.
 pub fn step(
     t: &[u8],
@@ -34,6 +34,7 @@ pub fn step(
     counters: &mut [u32; 64],
     before: &mut [u32; 64],
     held: &mut [u64; 128],
+    lacks: &mut [u64; 128],
     shown: &mut [u64; 128],
     from: &mut [u32; 128],
     upto: &mut [u32; 128],
@@ -54,25 +55,25 @@ pub fn step(
     b: &[u16; 64],
     limit: &[u32; 64],
     last: &[u32; 64],
-    index: &[u64; 768],
+    index: &[u64],
     rivals: &[u64; 64],
-    w: &[[u16; 64]; 128],
-    s: &[[u8; 64]; 128],
-    takers: &[u64; 128],
+    w: &[[u16; 64]],
+    s: &[[u8; 64]],
+    takers: &[u64],
     low: &[u64; 64],
     high: &[u64; 64],
     curbs: &[u64; 128],
     heads: &[u16; 256],
-    next: &[u16; 1024],
-    truths: &[u64; 128],
+    next: &[u16],
+    truths: &[u64],
 ) -> Outcome
     requires { ⌜ Net-of (now t) known timed conditional lower eights (record { sorts = now sorts; a = now a; b = now b }) (now limit) (now last) (now index) (now rivals) (now w) (now s) (now takers) (now low) (now high) (now curbs) (now heads) (now next) (now truths) ⌝ }
     requires { ⌜ Small (record { tokens = now tokens; counters = now counters; orders = orders }) ⌝ }
     requires { ⌜ Sized (now tokens) (now counters) ⌝ }
-    requires { ⌜ Poised (now index) (now w) (now s) (now tokens) (now held) (now shown) (now from) (now upto) (now taken) (now put) (now left) (now marks) ⌝ }
+    requires { ⌜ Poised (now index) (now w) (now s) (now curbs) (now tokens) (now held) (now lacks) (now shown) (now from) (now upto) (now taken) (now put) (now left) (now marks) ⌝ }
     requires { ⌜ Under (now t) (now tokens) ceiling ⌝ }
     ensures { λ r. ⌜ Stepped (table (now (t .entry))) (record { tokens = now (tokens .entry); counters = now (counters .entry); orders = orders }) word r (now (tokens .exit)) (now (counters .exit)) ⌝ }
-    ensures { λ r. ⌜ (128 ≤ r .over → Poised (now (index .entry)) (now (w .entry)) (now (s .entry)) (now (tokens .exit)) (now (held .exit)) (now (shown .exit)) (now (from .exit)) (now (upto .exit)) (now (taken .exit)) (now (put .exit)) (now (left .exit)) (now (marks .exit))) ⌝ }
+    ensures { λ r. ⌜ (128 ≤ r .over → Poised (now (index .entry)) (now (w .entry)) (now (s .entry)) (now (curbs .entry)) (now (tokens .exit)) (now (held .exit)) (now (lacks .exit)) (now (shown .exit)) (now (from .exit)) (now (upto .exit)) (now (taken .exit)) (now (put .exit)) (now (left .exit)) (now (marks .exit))) ⌝ }
     ensures { λ r. ⌜ (128 ≤ r .over → (p : ℕ) → p < 128 → getD (now (tokens .exit)) p 0 ≤ ceiling) ⌝ }
 {
     let n = 8 * eights;
@@ -84,7 +85,7 @@ pub fn step(
     // The rising edge.
     let able = edges::firable(on, timed, ready, conditional, index, truths, word);
     let fired = fire::fired(able, lower, rivals, tokens, w, s, takers, low, high);
-    let moved = moves::tally(t, taken, put, fired, held, curbs, heads, next, index);
+    let moved = moves::tally(t, taken, put, fired, lacks, heads, next, index);
     let actions = seen.shown;
     let functions = moved.functions;
     let over = settle::over(n, ceiling, tokens, taken, put);
@@ -101,6 +102,7 @@ pub fn step(
     let starved = settle::settle(
         tokens,
         held,
+        lacks,
         shown,
         from,
         upto,

@@ -2,7 +2,7 @@
 use mathlib.Core.Bool.{Bool, true, false, cond, not, _&&_, _||_, Bool·beq}
 use mathlib.Core.List.{List}
 use mathlib.Core.Path.{_≡_, refl, sym, ap, _∙_}
-use Prim.Native.Nat.{ℕ, _+_, _<_}
+use Prim.Native.Nat.{ℕ, _+_, _*_, _<_}
 use lib.Dec.{eqb}
 use lib.ListN.{getD}
 use borrow.Author.Tests.{eqb-true, eq-eqb, not-true}
@@ -56,7 +56,7 @@ agrees false = refl
 -- The index and the rows of the conditions wanted true are those of a table without faults.
 module _ (tb : Table) (index truths : List ℕ) (clean : Clean tb index) (g : Gathered tb 4 0 truths) (t : ℕ) (h : t < 64) where
   -- What is wanted true is looked at.
-  pub truths-looked : (k : ℕ) → k < 64 → bit (getD truths t 0) k ≡ true → bit (getD index (448 + t) 0) k ≡ true
+  pub truths-looked : (k : ℕ) → k < 64 → bit (getD truths t 0) k ≡ true → bit (getD index (8 * t + 4) 0) k ≡ true
   truths-looked k l e =
       let w = true-record tb index truths clean g t k h l e in
       record-looked tb index truths clean g t k h l (w .0) (w .1)
@@ -69,7 +69,7 @@ module _ (tb : Table) (index truths : List ℕ) (clean : Clean tb index) (g : Ga
     own : Looks tb t (tb .two r) r
     own = (m, k, o, refl)
 
-    looked : bit (getD index (448 + t) 0) (tb .two r) ≡ true
+    looked : bit (getD index (8 * t + 4) 0) (tb .two r) ≡ true
     looked = record-looked tb index truths clean g t (tb .two r) h low r own
 
     wanted-bit : bit (getD truths t 0) (tb .two r) ≡ eqb (tb .sort r) 0
@@ -81,12 +81,12 @@ module _ (tb : Table) (index truths : List ℕ) (clean : Clean tb index) (g : Ga
         (λ e. record-true tb index truths clean g t (tb .two r) h low r own (eqb-true (tb .sort r) 0 e))
 
   -- Conditions are as the two rows ask exactly if they are as wanted.
-  pub asked-same : (word : ℕ) → as-asked (getD index (448 + t) 0) (getD truths t 0) word ≡ as-wanted tb word t
+  pub asked-same : (word : ℕ) → as-asked (getD index (8 * t + 4) 0) (getD truths t 0) word ≡ as-wanted tb word t
   unfolding as-asked as-wanted
-  asked-same word = same-test _ (as-wanted tb word t) forth (λ e. ap not (none-intro 64 amiss (λ k l. back e k l (bit (getD index (448 + t) 0) k) refl)))
+  asked-same word = same-test _ (as-wanted tb word t) forth (λ e. ap not (none-intro 64 amiss (λ k l. back e k l (bit (getD index (8 * t + 4) 0) k) refl)))
     where
       amiss : ℕ → Bool
-      amiss k = bit (getD index (448 + t) 0) k && cond (bit (getD truths t 0) k) (not (bit word k)) (bit word k)
+      amiss k = bit (getD index (8 * t + 4) 0) k && cond (bit (getD truths t 0) k) (not (bit word k)) (bit word k)
 
       forth : not (some 64 amiss) ≡ true → as-wanted tb word t ≡ true
       forth e =
@@ -100,7 +100,7 @@ module _ (tb : Table) (index truths : List ℕ) (clean : Clean tb index) (g : Ga
               met-by (eqb (tb .sort r) 0) (bit word (tb .two r))
               (sym (rw (looked r m k o, wanted-bit r m k o)) ∙ none-elim 64 amiss (not-true _ e) (tb .two r) (low r m k o))
 
-      back : as-wanted tb word t ≡ true → (k : ℕ) → k < 64 → (b : Bool) → bit (getD index (448 + t) 0) k ≡ b
+      back : as-wanted tb word t ≡ true → (k : ℕ) → k < 64 → (b : Bool) → bit (getD index (8 * t + 4) 0) k ≡ b
           → (b && cond (bit (getD truths t 0) k) (not (bit word k)) (bit word k)) ≡ false
       back e k l false z = refl
       back e k l true z =

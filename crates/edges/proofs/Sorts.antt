@@ -2,7 +2,7 @@
 use mathlib.Core.Bool.{Bool, true, false, cond, not, _&&_, _||_}
 use mathlib.Core.List.{List}
 use mathlib.Core.Path.{_≡_, refl, _∙_}
-use Prim.Native.Nat.{ℕ, suc, _+_, _≤_, _<_}
+use Prim.Native.Nat.{ℕ, suc, _+_, _*_, _≤_, _<_}
 use native.Mathlib.Omega.{arith}
 use lib.Dec.{leb, ltb, eqb, leb·suc-suc}
 use lib.ListN.{getD}
@@ -57,7 +57,7 @@ module _ (x : Intervals) (limit last : List ℕ) (l : Limits x limit last) (time
     firable-is t = e t ∙ below (ltb t 64) refl
       where
         asked : Bool
-        asked = as-asked (getD index (448 + t) 0) (getD truths t 0) word
+        asked = as-asked (getD index (8 * t + 4) 0) (getD truths t 0) word
 
         sort : ℕ
         sort = getD (x .sorts) t 0

@@ -2,7 +2,7 @@
 use mathlib.Core.Bool.{Bool, cond, not, _&&_, _||_}
 use mathlib.Core.List.{List}
 use mathlib.Core.Path.{_≡_}
-use Prim.Native.Nat.{ℕ, suc, _+_, _≤_, _<_}
+use Prim.Native.Nat.{ℕ, suc, _+_, _*_, _≤_, _<_}
 use lib.Dec.{leb, ltb, eqb}
 use lib.ListN.{length, getD}
 use Rattle.meaning.specs.Below.{some}
@@ -32,10 +32,10 @@ timely sort a b c = eqb sort 0 || (leb a c && (eqb sort 2 || leb c b))
 unfoldable pub as-asked : ℕ → ℕ → ℕ → Bool
 as-asked looks truths word = not (some 64 (λ k. bit looks k && cond (bit truths k) (not (bit word k)) (bit word k)))
 
--- Transition t is firable: enabled, its conditions as wanted, in time. Row 448 + t of the index has the conditions that it looks at.
+-- Transition t is firable: enabled, its conditions as wanted, in time. Row 8 * t + 4 of the index has the conditions that it looks at.
 abbrev pub firable-at : Intervals → List ℕ → ℕ → List ℕ → List ℕ → ℕ → ℕ → Bool
 firable-at x counters on index truths word t =
-    bit on t && as-asked (getD index (448 + t) 0) (getD truths t 0) word
+    bit on t && as-asked (getD index (8 * t + 4) 0) (getD truths t 0) word
     && timely (getD (x .sorts) t 0) (getD (x .a) t 0) (getD (x .b) t 0) (getD counters t 0)
 
 -- For each transition, by its sort, a and b: how far its counter rises, and the last count in time, where 4294967295 stands for no end. No b is
@@ -69,4 +69,4 @@ Ready timed on a last counters r =
 -- The set of those that are enabled and untimed, or ready, and their conditions as wanted.
 abbrev pub Able : ℕ → ℕ → ℕ → List ℕ → List ℕ → ℕ → ℕ → Type 0
 Able on timed ready index truths word r =
-    (t : ℕ) → bit r t ≡ (ltb t 64 && (((bit on t && not (bit timed t)) || bit ready t) && as-asked (getD index (448 + t) 0) (getD truths t 0) word))
+    (t : ℕ) → bit r t ≡ (ltb t 64 && (((bit on t && not (bit timed t)) || bit ready t) && as-asked (getD index (8 * t + 4) 0) (getD truths t 0) word))

@@ -1,7 +1,7 @@
 // The two edges of a cycle: the counters after the falling edge, and the set of the transitions that are firable at the rising edge.
 ghost use mathlib.Core.Path.{_≡_};
 ghost use mathlib.Core.Bool.{true, false, cond, not};
-ghost use Prim.Native.Nat.{ℕ, suc, _+_, _≤_, _<_};
+ghost use Prim.Native.Nat.{ℕ, suc, _+_, _*_, _≤_, _<_};
 ghost use lib.Dec.{eqb};
 ghost use lib.ListN.{length, getD, replicate};
 ghost use Rattle.meaning.specs.Bytes.{bit};
@@ -43,16 +43,16 @@ pub fn limits(
     }
 }
 
-// The transitions that have conditions: row 448 + t of the index has those that transition t looks at. From n on none has.
+// The transitions that have conditions: row 8 * t + 4 of the index has those that transition t looks at. From n on none has.
 pub fn conditional(index: &[u64], n: usize) -> u64
-    requires { ⌜ (768 ≤ length (now index)) × (n ≤ 64) ⌝ }
-    requires { ⌜ ((t y : ℕ) → n ≤ t → t < 64 → y < 64 → bit (getD (now index) (448 + t) 0) y ≡ false) ⌝ }
-    ensures { λ r. ⌜ ((t : ℕ) → t < 64 → bit r t ≡ not (eqb (getD (now (index .entry)) (448 + t) 0) 0)) ⌝ }
+    requires { ⌜ (8 * n ≤ length (now index)) × (n ≤ 64) ⌝ }
+    requires { ⌜ ((t y : ℕ) → n ≤ t → t < 64 → y < 64 → bit (getD (now index) (8 * t + 4) 0) y ≡ false) ⌝ }
+    ensures { λ r. ⌜ ((t : ℕ) → t < 64 → bit r t ≡ not (eqb (getD (now (index .entry)) (8 * t + 4) 0) 0)) ⌝ }
 {
     let mut r = 0u64;
     let mut t = 0;
     while t < n {
-        if index[448 + t] != 0 {
+        if index[8 * t + 4] != 0 {
             r = sets::with(r, t);
         }
         t += 1;
@@ -60,13 +60,10 @@ pub fn conditional(index: &[u64], n: usize) -> u64
     r
 }
 
-// The counter of an enabled transition after the falling edge: 1 with a reset order, else one more if below its limit.
-fn raised(c: u32, order: bool, limit: u32) -> u32
-    ensures { λ r. ⌜ r ≡ raised order limit c ⌝ }
+// The counter of an enabled transition without a reset order after the falling edge: one more if below its limit.
+fn raised(c: u32, limit: u32) -> u32
+    ensures { λ r. ⌜ r ≡ raised false limit c ⌝ }
 {
-    if order {
-        return 1;
-    }
     if c < limit { c + 1 } else { c }
 }
 
@@ -81,6 +78,7 @@ fn in_span(a: u16, last: u32, c: u32) -> bool
 }
 
 // The counters of the timed transitions go through the falling edge; those of the others stay. The answer is who is timed, enabled and in time.
+// Three walks: over the timed that are not enabled, whose counters stop, over those with a reset order, which start at 1, and over the others.
 pub fn fall(
     counters: &mut [u32; 64],
     timed: u64,
@@ -101,10 +99,20 @@ pub fn fall(
         off = sets::rest(off);
     }
     let mut ready = 0u64;
-    let mut left = timed & on;
+    let here = timed & on;
+    let mut again = here & orders;
+    while again != 0 {
+        let t = sets::lowest(again);
+        counters[t] = 1;
+        if in_span(a[t], last[t], 1) {
+            ready = sets::with(ready, t);
+        }
+        again = sets::rest(again);
+    }
+    let mut left = sets::less(here, orders);
     while left != 0 {
         let t = sets::lowest(left);
-        let c = raised(counters[t], sets::has(orders, t), limit[t]);
+        let c = raised(counters[t], limit[t]);
         counters[t] = c;
         if in_span(a[t], last[t], c) {
             ready = sets::with(ready, t);
@@ -122,25 +130,27 @@ fn asked(looks: u64, truths: u64, word: u64) -> bool
     looks & word == truths
 }
 
-// The firable: enabled and untimed, or ready, and the conditions as wanted, which are asked only where there are any.
+// The firable: enabled and untimed, or ready, and the conditions as wanted, which are asked only where there are any; who has some has a row of them
+// in the index and one in the truths.
 pub fn firable(
     on: u64,
     timed: u64,
     ready: u64,
     conditional: u64,
-    index: &[u64; 768],
-    truths: &[u64; 128],
+    index: &[u64],
+    truths: &[u64],
     word: u64,
 ) -> u64
-    requires { ⌜ ((t : ℕ) → t < 64 → bit conditional t ≡ not (eqb (getD (now index) (448 + t) 0) 0)) ⌝ }
-    requires { ⌜ ((t k : ℕ) → t < 64 → k < 64 → bit (getD (now truths) t 0) k ≡ true → bit (getD (now index) (448 + t) 0) k ≡ true) ⌝ }
+    requires { ⌜ ((t : ℕ) → t < 64 → bit conditional t ≡ not (eqb (getD (now index) (8 * t + 4) 0) 0)) ⌝ }
+    requires { ⌜ ((t k : ℕ) → t < 64 → k < 64 → bit (getD (now truths) t 0) k ≡ true → bit (getD (now index) (8 * t + 4) 0) k ≡ true) ⌝ }
+    requires { ⌜ ((t : ℕ) → t < 64 → bit conditional t ≡ true → (8 * t + 4 < length (now index)) × (t < length (now truths))) ⌝ }
     ensures { λ r. ⌜ Able on timed ready (now (index .entry)) (now (truths .entry)) word r ⌝ }
 {
     let mut able = sets::union(sets::less(on, timed), ready);
     let mut left = able & conditional;
     while left != 0 {
         let t = sets::lowest(left);
-        if !asked(index[448 + t], truths[t], word) {
+        if !asked(index[8 * t + 4], truths[t], word) {
             able = sets::less(able, sets::single(t));
         }
         left = sets::rest(left);

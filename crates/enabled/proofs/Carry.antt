@@ -3,7 +3,7 @@
 use mathlib.Core.Bool.{Bool, true, false, cond, not, _&&_}
 use mathlib.Core.List.{List}
 use mathlib.Core.Path.{_≡_, refl, sym, ap, _∙_}
-use Prim.Native.Nat.{ℕ, _+_, _-_, _≤_, _<_}
+use Prim.Native.Nat.{ℕ, _+_, _*_, _-_, _≤_, _<_}
 use native.Mathlib.Omega.{arith}
 use lib.Dec.{ltb, eqb}
 use lib.ListN.{getD}
@@ -35,16 +35,16 @@ Arc tb t r = (r < tb .records) × (tb .kind r ≡ 3) × (tb .sort r < 3) × (tb 
 abbrev pub from-to : Table → ℕ → ℕ → ℕ → Bool
 from-to tb p t r = is tb 3 r && not (post tb r) && eqb (tb .one r) p && eqb (tb .two r) t
 
--- Row 192 + p has t exactly if some input arc comes from place p to t.
+-- Row 8 * p + 2 has t exactly if some input arc comes from place p to t.
 module _ (tb : Table) (index : List ℕ) (clean : Clean tb index) (t : ℕ) (ht : t < 64) where
-  pub row-same : (p : ℕ) → p < 128 → bit (getD index (192 + p) 0) t ≡ some (tb .records) (from-to tb p t)
+  pub row-same : (p : ℕ) → p < 128 → bit (getD index (8 * p + 2) 0) t ≡ some (tb .records) (from-to tb p t)
   unfolding row faulty
   row-same p h =
-      clean .index .holds (192 + p) t (omega arith) ht
+      clean .index .holds (8 * p + 2) t (omega arith) ht
       ∙ some-same (tb .records) _ (from-to tb p t)
       (λ r l.
       let z = spot (shown r l) in
-      ap (λ (b : Bool). b && eqb (tb .two r) t) (row-test z 2 p (omega arith) h ∙ ap (λ (b : Bool). b && eqb (tb .one r) p) (input-is z)))
+      ap (λ (b : Bool). b && eqb (tb .two r) t) (row-test z 2 p (omega arith) ∙ ap (λ (b : Bool). b && eqb (tb .one r) p) (input-is z)))
     where
       shown : (r : ℕ) → r < tb .records → Shows tb r
       shown r l = faultless tb r (rw (clean .fine r l)) .0
@@ -104,20 +104,20 @@ module _ (tb : Table) (w s : List (List ℕ)) (index : List ℕ) (x : Inputs) (g
       )
 
   -- So has place p in t's words.
-  pub in-row : (p : ℕ) → p < 128 → in-words (getD (x .low) t 0) (getD (x .high) t 0) p ≡ bit (getD index (192 + p) 0) t
+  pub in-row : (p : ℕ) → p < 128 → in-words (getD (x .low) t 0) (getD (x .high) t 0) p ≡ bit (getD index (8 * p + 2) 0) t
   in-row p h = go (ltb p 64) refl
     where
-      go : (b : Bool) → ltb p 64 ≡ b → cond b (bit (getD (x .low) t 0) p) (bit (getD (x .high) t 0) (p - 64)) ≡ bit (getD index (192 + p) 0) t
+      go : (b : Bool) → ltb p 64 ≡ b → cond b (bit (getD (x .low) t 0) p) (bit (getD (x .high) t 0) (p - 64)) ≡ bit (getD index (8 * p + 2) 0) t
       go true e = gx .low t p ht (ltb-true p 64 e)
       go false e =
-          let past : 192 + (64 + (p - 64)) ≡ 192 + p = omega (arith, ltb-false p 64 e) in
+          let past : 8 * (64 + (p - 64)) + 2 ≡ 8 * p + 2 = omega (arith, ltb-false p 64 e) in
           gx .high t (p - 64) ht (omega arith) ∙ rw past
 
   words-same : (p : ℕ) → p < 128 → in-words (getD (x .low) t 0) (getD (x .high) t 0) p ≡ some (tb .records) (from-to tb p t)
   words-same p h = in-row p h ∙ row-same tb index clean t ht p h
 
-  -- Where row 192 + p has t, the cell is an arc's: it has a weight, and the sort of an input arc.
-  pub arc-cell : (p : ℕ) → p < 128 → bit (getD index (192 + p) 0) t ≡ true → (1 ≤ cell w p t) × (cell s p t < 3)
+  -- Where row 8 * p + 2 has t, the cell is an arc's: it has a weight, and the sort of an input arc.
+  pub arc-cell : (p : ℕ) → p < 128 → bit (getD index (8 * p + 2) 0) t ≡ true → (1 ≤ cell w p t) × (cell s p t < 3)
   arc-cell p h e =
       let r = some-elim (tb .records) (from-to tb p t) (sym (row-same tb index clean t ht p h) ∙ e) in
       let q = each (is tb 3 (r .0)) (not (post tb (r .0))) (eqb (tb .one (r .0)) p) (eqb (tb .two (r .0)) t) (r .2) in
@@ -199,19 +199,19 @@ module _ (tb : Table) (w s : List (List ℕ)) (index : List ℕ) (x : Inputs) (g
 
 -- The actions that the first n places show, all others having none, are those of the places with a token.
 pub shown-same : {index : List ℕ} {w s : List (List ℕ)} {m held shown from upto : List ℕ} (n : ℕ) → Empty-from index n → Levels index w s m held shown from upto
-    → (k : ℕ) → some n (λ p. bit (getD shown p 0) k) ≡ some 128 (λ p. ltb 0 (getD m p 0) && bit (getD index (576 + p) 0) k)
+    → (k : ℕ) → some n (λ p. bit (getD shown p 0) k) ≡ some 128 (λ p. ltb 0 (getD m p 0) && bit (getD index (8 * p + 6) 0) k)
 shown-same {index} {w} {s} {m} {held} {shown} n none levels k = same-test (some n here) (some 128 there) forth (λ e. back (some-elim 128 there e))
   where
     here : ℕ → Bool
     here p = bit (getD shown p 0) k
 
     there : ℕ → Bool
-    there p = ltb 0 (getD m p 0) && bit (getD index (576 + p) 0) k
+    there p = ltb 0 (getD m p 0) && bit (getD index (8 * p + 6) 0) k
 
     one : (p : ℕ) → p < 128 → here p ≡ there p
     one p h = ap (λ (x : ℕ). bit x k) (shown-now levels p h) ∙ go (eqb (getD m p 0) 0) refl
       where
-        go : (b : Bool) → eqb (getD m p 0) 0 ≡ b → bit (cond b 0 (getD index (576 + p) 0)) k ≡ there p
+        go : (b : Bool) → eqb (getD m p 0) 0 ≡ b → bit (cond b 0 (getD index (8 * p + 6) 0)) k ≡ there p
         go true e = bit-zero k ∙ sym (rw (eqb-true (getD m p 0) 0 e, le-ltb 0 0 (omega arith)))
         go false e =
             let apart : ¬ (getD m p 0 ≡ 0) = eqb-false (getD m p 0) 0 e in

@@ -2,17 +2,17 @@
 use mathlib.Core.Bool.{Bool, true, false, cond, not, _&&_, _||_}
 use mathlib.Core.List.{List}
 use mathlib.Core.Path.{_≡_, refl, sym, ap, _∙_}
-use Prim.Native.Nat.{ℕ, _+_, _^_, _≤_, _<_}
+use Prim.Native.Nat.{ℕ, _+_, _*_, _^_, _≤_, _<_}
 use native.Mathlib.Omega.{arith}
 use lib.Dec.{leb, ltb, eqb}
-use lib.ListN.{length, getD, set, replicate, length-replicate, getD-replicate, List·getD-eq-default}
+use lib.ListN.{length, getD, set, replicate, length-replicate, getD-replicate, length-set, List·getD-eq-default}
 use lib.Seq.{getD-set-same, getD-set-other}
 use borrow.Author.Tests.{eqb-true, eqb-false, ltb-true, ltb-false, lt-ltb, le-ltb, lt-leb, le-leb}
 use Rattle.meaning.specs.Bytes.{bit}
 use Rattle.sets.proofs.Bits.{bit-zero, bit-under, bits-bit, bits-low, same-set}
 use Rattle.net.specs.Rows.{cell}
 use Rattle.enabled.specs.declared.Level.{Level}
-use Rattle.enabled.specs.Held.{Empty-from, Curbed, plain, held-by, shown-by, Spans, Levels}
+use Rattle.enabled.specs.Held.{Empty-from, Curbed, plain, held-by, shown-by, Spans, Levels, Wanting, Wanting-but}
 
 -- At most is not above.
 pub at-most : (a b : ℕ) → leb a b ≡ not (ltb b a)
@@ -49,7 +49,7 @@ all-short arcs w low weighty t = go (bit arcs t) refl
 module _ {index : List ℕ} {s : List (List ℕ)} {curbs : List ℕ} (curbed : Curbed index s curbs) (p : ℕ) (h : p < 128) where
   -- Whoever is short of a weight and has no inhibitor arc, or has one and is not short, is whom the place holds back.
   pub row-held : (w : List (List ℕ)) (k short r : ℕ) → r < 2 ^ 64
-      → ((t : ℕ) → bit short t ≡ (bit (getD index (192 + p) 0) t && ltb k (cell w p t)))
+      → ((t : ℕ) → bit short t ≡ (bit (getD index (8 * p + 2) 0) t && ltb k (cell w p t)))
       → ((t : ℕ) → bit r t ≡ ((bit short t && not (bit (getD curbs p 0) t)) || (bit (getD curbs p 0) t && not (bit short t))))
       → r ≡ held-by index w s k p
   unfolding held-by
@@ -57,7 +57,7 @@ module _ {index : List ℕ} {s : List (List ℕ)} {curbs : List ℕ} (curbed : C
       same-set r _ low (bits-low _)
       (λ t l.
       is t ∙ rw (lacks t, curbed .curbs-is p t h l, at-most (cell w p t) k)
-      (go (bit (getD index (192 + p) 0) t) (eqb (cell s p t) 2) (ltb k (cell w p t))) ∙ sym (bits-bit _ t l))
+      (go (bit (getD index (8 * p + 2) 0) t) (eqb (cell s p t) 2) (ltb k (cell w p t))) ∙ sym (bits-bit _ t l))
     where
       go : (a b x : Bool) → (((a && x) && not (a && b)) || ((a && b) && not (a && x))) ≡ (a && cond b (not x) x)
       go true true true = refl
@@ -72,10 +72,10 @@ module _ {index : List ℕ} {s : List (List ℕ)} {curbs : List ℕ} (curbed : C
   unfolding held-by
   plain-held w k t l =
       rw (
-        bits-bit (λ t. bit (getD index (192 + p) 0) t && cond (eqb (cell s p t) 2) (leb (cell w p t) k) (ltb k (cell w p t))) t l,
+        bits-bit (λ t. bit (getD index (8 * p + 2) 0) t && cond (eqb (cell s p t) 2) (leb (cell w p t) k) (ltb k (cell w p t))) t l,
         curbed .curbs-is p t h l,
       )
-      (go (bit (getD index (192 + p) 0) t) (eqb (cell s p t) 2) _ _)
+      (go (bit (getD index (8 * p + 2) 0) t) (eqb (cell s p t) 2) _ _)
     where
       go : (a b x y : Bool) → ((a && cond b x y) && not (a && b)) ≡ ((a && not (a && b)) && y)
       go true true true y = refl
@@ -85,20 +85,20 @@ module _ {index : List ℕ} {s : List (List ℕ)} {curbs : List ℕ} (curbed : C
       go false b x y = refl
 
   -- A basic or test arc is an arc that is no inhibitor arc.
-  pub plain-is : (t : ℕ) → t < 64 → plain index curbs p t ≡ (bit (getD index (192 + p) 0) t && not (eqb (cell s p t) 2))
-  plain-is t l = rw (curbed .curbs-is p t h l) (go (bit (getD index (192 + p) 0) t) (eqb (cell s p t) 2))
+  pub plain-is : (t : ℕ) → t < 64 → plain index curbs p t ≡ (bit (getD index (8 * p + 2) 0) t && not (eqb (cell s p t) 2))
+  plain-is t l = rw (curbed .curbs-is p t h l) (go (bit (getD index (8 * p + 2) 0) t) (eqb (cell s p t) 2))
     where
       go : (a b : Bool) → (a && not (a && b)) ≡ (a && not b)
       go true b = refl
       go false b = refl
 
 -- A place without arcs holds nobody back.
-pub none-held : (index : List ℕ) (w s : List (List ℕ)) (k p : ℕ) → getD index (192 + p) 0 ≡ 0 → held-by index w s k p ≡ 0
+pub none-held : (index : List ℕ) (w s : List (List ℕ)) (k p : ℕ) → getD index (8 * p + 2) 0 ≡ 0 → held-by index w s k p ≡ 0
 unfolding held-by
 none-held index w s k p e = same-set _ 0 (bits-low _) (omega arith) (λ t l. bits-bit _ t l ∙ rw (e, bit-zero t))
 
 -- Neither arc nor action: with any number of tokens the place holds nobody back and shows nothing.
-pub none-spans : (index : List ℕ) (w s : List (List ℕ)) (p from upto : ℕ) → getD index (192 + p) 0 ≡ 0 → getD index (576 + p) 0 ≡ 0 → upto ≤ 2147483647
+pub none-spans : (index : List ℕ) (w s : List (List ℕ)) (p from upto : ℕ) → getD index (8 * p + 2) 0 ≡ 0 → getD index (8 * p + 6) 0 ≡ 0 → upto ≤ 2147483647
     → Spans index w s p 0 0 from upto
 none-spans index w s p from upto no-arc no-action low =
     record { roof = low; holds = λ k l h. sym (none-held index w s k p no-arc); shows = λ k l h. rw no-action (go (eqb k 0)) }
@@ -146,3 +146,39 @@ none-set q = go (ltb q 128) refl
     go : (b : Bool) → ltb q 128 ≡ b → _≡_ {A = ℕ} (getD (replicate 128 0) q 0) 0
     go true h = getD-replicate {A = ℕ} 128 q 0 0 (ltb-true q 128 h)
     go false h = List·getD-eq-default (replicate 128 0) 0 {n = q} (rw (length-replicate {A = ℕ} 128 0) (ltb-false q 128 h))
+
+-- Where it is told of every place who lacks tokens there, it is told of every place but one.
+pub but-one : {held curbs lacks : List ℕ} (q : ℕ) → Wanting held curbs lacks → Wanting-but q held curbs lacks
+but-one q wanting = record { size = wanting .size; same = λ p t h apart l. wanting .same p t h l }
+
+-- That one place is told of too.
+pub told-at : {held curbs lacks : List ℕ} (q back lack : ℕ) → q < 128 → length held ≡ 128
+    → ((t : ℕ) → bit lack t ≡ (bit back t && not (bit (getD curbs q 0) t)))
+    → Wanting-but q held curbs lacks → Wanting (set held q back) curbs (set lacks q lack)
+told-at {held} {curbs} {lacks} q back lack low size is but =
+    record { size = length-set lacks q lack ∙ but .size; same = λ p t h l. go p t h l (eqb p q) refl }
+  where
+    go : (p t : ℕ) → p < 128 → t < 64 → (b : Bool) → eqb p q ≡ b
+        → bit (getD (set lacks q lack) p 0) t ≡ (bit (getD (set held q back) p 0) t && not (bit (getD curbs p 0) t))
+    go p t h l true e =
+        rw (
+          eqb-true p q e,
+          getD-set-same lacks q lack 0 (omega (arith, low, but .size)),
+          getD-set-same held q back 0 (omega (arith, low, size)),
+        )
+        (is t)
+    go p t h l false e =
+        let apart : ¬ (p ≡ q) = eqb-false p q e in
+        rw (getD-set-other lacks q p lack 0 apart, getD-set-other held q p back 0 apart) (but .same p t h apart l)
+
+-- Whoever is short and has no inhibitor arc is whom the place holds back and who has none.
+pub short-lack : (short curbs lack back : ℕ) → ((t : ℕ) → bit lack t ≡ (bit short t && not (bit curbs t)))
+    → ((t : ℕ) → bit back t ≡ (bit lack t || (bit curbs t && not (bit short t)))) → (t : ℕ) → bit lack t ≡ (bit back t && not (bit curbs t))
+short-lack short curbs lack back lack-is back-is t =
+    rw (back-is t, lack-is t) (go (bit short t) (bit curbs t))
+  where
+    go : (a b : Bool) → (a && not b) ≡ (((a && not b) || (b && not a)) && not b)
+    go true true = refl
+    go true false = refl
+    go false true = refl
+    go false false = refl

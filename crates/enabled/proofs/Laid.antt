@@ -3,7 +3,7 @@
 use mathlib.Core.Bool.{Bool, true, false, not, _&&_}
 use mathlib.Core.List.{List}
 use mathlib.Core.Path.{_≡_, refl, sym, ap, _∙_}
-use Prim.Native.Nat.{ℕ, _+_, _≤_, _<_}
+use Prim.Native.Nat.{ℕ, _+_, _*_, _≤_, _<_}
 use native.Mathlib.Omega.{arith}
 use lib.Dec.{eqb, ltb}
 use lib.ListN.{getD}
@@ -65,7 +65,7 @@ module _ (tb : Table) (index : List ℕ) (clean : Clean tb index)
       sort-of : (p t r : ℕ) → t < 64 → Arc tb t r → tb .one r ≡ p → cell s p t ≡ tb .sort r
       sort-of p t r l a one = rw (← one) (cell-of tb w s index x gw gs clean gx arcs single t l r a .1)
 
-      there : (p t : ℕ) → p < 128 → t < 64 → bit (getD curbs p 0) t ≡ true → (bit (getD index (192 + p) 0) t && eqb (cell s p t) 2) ≡ true
+      there : (p t : ℕ) → p < 128 → t < 64 → bit (getD curbs p 0) t ≡ true → (bit (getD index (8 * p + 2) 0) t && eqb (cell s p t) 2) ≡ true
       there p t h l e =
           let n = bit-record tb 3 2 curbs g p t h l e in
           let r : ℕ = n .0 in
@@ -73,12 +73,12 @@ module _ (tb : Table) (index : List ℕ) (clean : Clean tb index)
           let from : from-to tb p t r ≡ true = ap (λ (q : ℕ). from-to tb q t r) (sym (n .1 .3)) ∙ comes tb w s index x gw gs clean gx arcs single t l r a in
           and-true (row-same tb index clean t l p h ∙ some-intro (tb .records) (from-to tb p t) r (n .1 .0) from) (eq-eqb (cell s p t) 2 (sort-of p t r l a (n .1 .3) ∙ n .1 .2))
 
-      back : (p t : ℕ) → p < 128 → t < 64 → (bit (getD index (192 + p) 0) t && eqb (cell s p t) 2) ≡ true → bit (getD curbs p 0) t ≡ true
+      back : (p t : ℕ) → p < 128 → t < 64 → (bit (getD index (8 * p + 2) 0) t && eqb (cell s p t) 2) ≡ true → bit (getD curbs p 0) t ≡ true
       back p t h l e =
-          let row : bit (getD index (192 + p) 0) t ≡ true = and-left _ (eqb (cell s p t) 2) e in
+          let row : bit (getD index (8 * p + 2) 0) t ≡ true = and-left _ (eqb (cell s p t) 2) e in
           let f = some-elim (tb .records) (from-to tb p t) (sym (row-same tb index clean t l p h) ∙ row) in
           let r : ℕ = f .0 in
           let q = each (is tb 3 r) (not (post tb r)) (eqb (tb .one r) p) (eqb (tb .two r) t) (f .2) in
           let a : Arc tb t r = arc-of tb w s index x gw gs clean gx arcs single t l r (f .1) (q .0) (q .1) (q .3) in
-          let sort : tb .sort r ≡ 2 = sym (sort-of p t r l a (eqb-true (tb .one r) p (q .2))) ∙ eqb-true (cell s p t) 2 (and-right (bit (getD index (192 + p) 0) t) _ e) in
+          let sort : tb .sort r ≡ 2 = sym (sort-of p t r l a (eqb-true (tb .one r) p (q .2))) ∙ eqb-true (cell s p t) 2 (and-right (bit (getD index (8 * p + 2) 0) t) _ e) in
           g .holds p t h l ∙ some-intro (tb .records) _ r (f .1) (and-true (and-true (and-true (q .0) (eq-eqb _ _ sort)) (q .2)) (q .3))

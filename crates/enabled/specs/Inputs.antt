@@ -2,7 +2,7 @@
 use mathlib.Core.Bool.{Bool, cond, not, _&&_}
 use mathlib.Core.List.{List}
 use mathlib.Core.Path.{_≡_}
-use Prim.Native.Nat.{ℕ, _+_, _-_, _<_}
+use Prim.Native.Nat.{ℕ, _+_, _*_, _-_, _<_}
 use lib.Dec.{leb, ltb, eqb}
 use lib.ListN.{getD}
 use Rattle.meaning.specs.Below.{some}
@@ -14,10 +14,10 @@ pub record Inputs : Type 0 where
   pub low : List ℕ
   pub high : List ℕ
 
--- Bit p of a transition's two words: row 192 + p of the index has the transition.
+-- Bit p of a transition's two words: row 8 * p + 2 of the index has the transition.
 pub record Inputs-of (index : List ℕ) (x : Inputs) : Type 0 where
-  pub low : (t p : ℕ) → t < 64 → p < 64 → bit (getD (x .low) t 0) p ≡ bit (getD index (192 + p) 0) t
-  pub high : (t p : ℕ) → t < 64 → p < 64 → bit (getD (x .high) t 0) p ≡ bit (getD index (192 + (64 + p)) 0) t
+  pub low : (t p : ℕ) → t < 64 → p < 64 → bit (getD (x .low) t 0) p ≡ bit (getD index (8 * p + 2) 0) t
+  pub high : (t p : ℕ) → t < 64 → p < 64 → bit (getD (x .high) t 0) p ≡ bit (getD index (8 * (64 + p) + 2) 0) t
 
 -- Place p is in the two words.
 abbrev pub in-words : ℕ → ℕ → ℕ → Bool

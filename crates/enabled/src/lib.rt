@@ -7,7 +7,7 @@ ghost use lib.ListN.{length, getD, replicate};
 ghost use Rattle.meaning.specs.Below.{some};
 ghost use Rattle.meaning.specs.Bytes.{bit};
 ghost use Rattle.table.specs.Index.{Reaches};
-ghost use Rattle.enabled.specs.Held.{Empty-from, Curbed, Weighty, Narrowed, Level-of, Spans, Four, Moves-to, Levels};
+ghost use Rattle.enabled.specs.Held.{Empty-from, Curbed, Weighty, Narrowed, Level-of, Spans, Four, Moves-to, Levels, Wanting, Wanting-but};
 
 // Does an arc of this weight and sort stop its transition, with so many tokens on its place?
 pub fn stops(tokens: u32, weight: u16, sort: u8) -> bool
@@ -107,28 +107,32 @@ fn outside(tokens: u32, from: u32, upto: u32) -> bool
     if tokens < from { true } else { upto <= tokens }
 }
 
-// Row p of the four for so many tokens on place p: whom they hold back, the actions they show, and their level.
+// Row p of the five for so many tokens on place p: whom they hold back, who of those lacks tokens there, the actions they show, and their level.
 fn relevel(
     p: usize,
     tokens: u32,
-    index: &[u64; 768],
+    index: &[u64],
     curbs: &[u64; 128],
-    w: &[[u16; 64]; 128],
-    s: &[[u8; 64]; 128],
+    w: &[[u16; 64]],
+    s: &[[u8; 64]],
     held: &mut [u64; 128],
+    lacks: &mut [u64; 128],
     shown: &mut [u64; 128],
     from: &mut [u32; 128],
     upto: &mut [u32; 128],
 )
     requires { ⌜ (p < 128) × (tokens < 2147483647) ⌝ }
-    requires { ⌜ Curbed (now index) (now s) (now curbs) × Weighty (now index) (now w) ⌝ }
+    requires { ⌜ Curbed (now index) (now s) (now curbs) × Weighty (now index) (now w) × (p < length (now w)) × (8 * p + 8 ≤ length (now index)) ⌝ }
     requires { ⌜ Four (now held) (now shown) (now from) (now upto) ⌝ }
     ensures { λ _. ⌜ Moves-to (now (index .entry)) (now (w .entry)) (now (s .entry)) p tokens (now (held .entry)) (now (shown .entry)) (now (from .entry)) (now (upto .entry)) (now (held .exit)) (now (shown .exit)) (now (from .exit)) (now (upto .exit)) ⌝ }
+    ensures { λ _. ⌜ (Wanting-but p (now (held .entry)) (now (curbs .entry)) (now (lacks .entry)) → Wanting (now (held .exit)) (now (curbs .entry)) (now (lacks .exit))) ⌝ }
 {
-    let x = level_of(tokens, index[192 + p], &w[p]);
+    let x = level_of(tokens, index[8 * p + 2], &w[p]);
     let short = x.short;
-    held[p] = sets::union(sets::less(short, curbs[p]), sets::less(curbs[p], short));
-    shown[p] = shows(tokens, index[576 + p]);
+    let lack = sets::less(short, curbs[p]);
+    lacks[p] = lack;
+    held[p] = sets::union(lack, sets::less(curbs[p], short));
+    shown[p] = shows(tokens, index[8 * p + 6]);
     from[p] = x.from;
     upto[p] = x.upto;
 }
@@ -137,48 +141,66 @@ fn relevel(
 pub fn shift(
     p: usize,
     tokens: u32,
-    index: &[u64; 768],
+    index: &[u64],
     curbs: &[u64; 128],
-    w: &[[u16; 64]; 128],
-    s: &[[u8; 64]; 128],
+    w: &[[u16; 64]],
+    s: &[[u8; 64]],
     held: &mut [u64; 128],
+    lacks: &mut [u64; 128],
     shown: &mut [u64; 128],
     from: &mut [u32; 128],
     upto: &mut [u32; 128],
 )
     requires { ⌜ (p < 128) × (tokens < 2147483647) ⌝ }
-    requires { ⌜ Curbed (now index) (now s) (now curbs) × Weighty (now index) (now w) ⌝ }
+    requires { ⌜ Curbed (now index) (now s) (now curbs) × Weighty (now index) (now w) × (p < length (now w)) × (8 * p + 8 ≤ length (now index)) ⌝ }
     requires { ⌜ Four (now held) (now shown) (now from) (now upto) ⌝ }
     requires { ⌜ Spans (now index) (now w) (now s) p (getD (now held) p 0) (getD (now shown) p 0) (getD (now from) p 0) (getD (now upto) p 0) ⌝ }
+    requires { ⌜ Wanting (now held) (now curbs) (now lacks) ⌝ }
     ensures { λ _. ⌜ Moves-to (now (index .entry)) (now (w .entry)) (now (s .entry)) p tokens (now (held .entry)) (now (shown .entry)) (now (from .entry)) (now (upto .entry)) (now (held .exit)) (now (shown .exit)) (now (from .exit)) (now (upto .exit)) ⌝ }
+    ensures { λ _. ⌜ Wanting (now (held .exit)) (now (curbs .entry)) (now (lacks .exit)) ⌝ }
 {
     if outside(tokens, from[p], upto[p]) {
-        relevel(p, tokens, index, curbs, w, s, held, shown, from, upto);
+        relevel(
+            p,
+            tokens,
+            index,
+            curbs,
+            w,
+            s,
+            held,
+            lacks,
+            shown,
+            from,
+            upto,
+        );
     }
 }
 
-// The four rows of each place for its tokens. They are lent empty, each level without an end; from n on there is neither an arc nor an action.
+// The five rows of each place for its tokens. They are lent empty, each level without an end; from n on there is neither an arc nor an action,
+// and neither w nor the index need have a row.
 pub fn hold(
     m: &[u32; 128],
-    index: &[u64; 768],
+    index: &[u64],
     curbs: &[u64; 128],
-    w: &[[u16; 64]; 128],
-    s: &[[u8; 64]; 128],
+    w: &[[u16; 64]],
+    s: &[[u8; 64]],
     n: usize,
     held: &mut [u64; 128],
+    lacks: &mut [u64; 128],
     shown: &mut [u64; 128],
     from: &mut [u32; 128],
     upto: &mut [u32; 128],
 )
-    requires { ⌜ (now held ≡ replicate 128 0) × (now shown ≡ replicate 128 0) × (now from ≡ replicate 128 0) × (now upto ≡ replicate 128 2147483647) ⌝ }
-    requires { ⌜ Curbed (now index) (now s) (now curbs) × Weighty (now index) (now w) ⌝ }
+    requires { ⌜ (now held ≡ replicate 128 0) × (now shown ≡ replicate 128 0) × (now from ≡ replicate 128 0) × (now upto ≡ replicate 128 2147483647) × (now lacks ≡ replicate 128 0) ⌝ }
+    requires { ⌜ Curbed (now index) (now s) (now curbs) × Weighty (now index) (now w) × (n ≤ length (now w)) × (8 * n ≤ length (now index)) ⌝ }
     requires { ⌜ Empty-from (now index) n ⌝ }
     requires { ⌜ ((p : ℕ) → p < 128 → getD (now m) p 0 < 2147483647) ⌝ }
     ensures { λ _. ⌜ Levels (now (index .entry)) (now (w .entry)) (now (s .entry)) (now (m .entry)) (now (held .exit)) (now (shown .exit)) (now (from .exit)) (now (upto .exit)) ⌝ }
+    ensures { λ _. ⌜ Wanting (now (held .exit)) (now (curbs .entry)) (now (lacks .exit)) ⌝ }
 {
     let mut p = 0;
     while p < n {
-        relevel(p, m[p], index, curbs, w, s, held, shown, from, upto);
+        relevel(p, m[p], index, curbs, w, s, held, lacks, shown, from, upto);
         p += 1;
     }
 }
@@ -211,16 +233,17 @@ pub fn gather(held: &[u64; 128], shown: &[u64; 128], n: usize) -> Seen
 
 // One more than the highest place with an input arc or an action, 0 if there is none. The index goes no further than `reach`.
 pub fn bound(index: &[u64], reach: usize) -> usize
-    requires { ⌜ 768 ≤ length (now index) ⌝ }
+    requires { ⌜ 8 * reach ≤ length (now index) ⌝ }
     requires { ⌜ Reaches (now index) reach ⌝ }
     ensures { λ n. ⌜ Empty-from (now (index .entry)) n × (n ≤ reach) ⌝ }
 {
     let mut n = reach;
     while 0 < n {
-        if sets::union(index[191 + n], index[575 + n]) != 0 {
+        let p = n - 1;
+        if sets::union(index[8 * p + 2], index[8 * p + 6]) != 0 {
             return n;
         }
-        n -= 1;
+        n = p;
     }
     n
 }
@@ -228,7 +251,7 @@ pub fn bound(index: &[u64], reach: usize) -> usize
 // How many eights it takes to have every number below n.
 pub fn eights(n: usize) -> usize
     requires { ⌜ n ≤ 128 ⌝ }
-    ensures { λ e. ⌜ (n ≤ 8 * e) × (8 * e ≤ 128) ⌝ }
+    ensures { λ e. ⌜ (n ≤ 8 * e) × (8 * e ≤ n + 7) × (8 * e ≤ 128) ⌝ }
 {
     (n + 7) / 8
 }
@@ -240,16 +263,16 @@ pub fn with_if(s: u64, k: usize, passes: bool) -> u64
     if passes { sets::with(s, k) } else { s }
 }
 
-// The declared transitions: rows 128 to 191 of the index have one each, at 0. The index goes no further than n.
-pub fn known(index: &[u64; 768], n: usize) -> u64
-    requires { ⌜ Reaches (now index) n ⌝ }
-    ensures { λ r. ⌜ ((t : ℕ) → t < 64 → bit r t ≡ bit (getD (now (index .entry)) (128 + t) 0) 0) ⌝ }
+// The declared transitions: row 8 * t + 1 of the index has transition t, at 0. The index goes no further than n.
+pub fn known(index: &[u64], n: usize) -> u64
+    requires { ⌜ Reaches (now index) n × (8 * n ≤ length (now index)) ⌝ }
+    ensures { λ r. ⌜ ((t : ℕ) → t < 64 → bit r t ≡ bit (getD (now (index .entry)) (8 * t + 1) 0) 0) ⌝ }
 {
     let most = table::transitions(n);
     let mut r = 0u64;
     let mut t = 0;
     while t < most {
-        let passes = sets::has(index[128 + t], 0);
+        let passes = sets::has(index[8 * t + 1], 0);
         r = with_if(r, t, passes);
         t += 1;
     }
@@ -257,12 +280,11 @@ pub fn known(index: &[u64; 768], n: usize) -> u64
 }
 
 // The timed transitions: those whose sort is not 0. From n on every sort is 0.
-pub fn timed(x: timing::Intervals, n: usize) -> u64
+pub fn timed(sorts: &[u8; 64], n: usize) -> u64
     requires { ⌜ n ≤ 64 ⌝ }
-    requires { ⌜ ((t : ℕ) → n ≤ t → t < 64 → getD (x .sorts) t 0 ≡ 0) ⌝ }
-    ensures { λ r. ⌜ ((t : ℕ) → t < 64 → bit r t ≡ not (eqb (getD (x .sorts) t 0) 0)) ⌝ }
+    requires { ⌜ ((t : ℕ) → n ≤ t → t < 64 → getD (now sorts) t 0 ≡ 0) ⌝ }
+    ensures { λ r. ⌜ ((t : ℕ) → t < 64 → bit r t ≡ not (eqb (getD (now (sorts .entry)) t 0) 0)) ⌝ }
 {
-    let sorts = x.sorts;
     let mut r = 0u64;
     let mut t = 0;
     while t < n {

@@ -5,5 +5,6 @@ pub mod Stages
 pub mod Verdict
 pub mod Starts
 pub mod Lent
+pub mod Room
 pub mod Runs
 pub mod Demands

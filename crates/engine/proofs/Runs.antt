@@ -3,6 +3,7 @@ use mathlib.Core.List.{List, _++_, append-assoc}
 use mathlib.Core.Logic.{_≢_}
 use mathlib.Core.Path.{_≡_, refl, sym, ap, _∙_}
 use Prim.Native.Nat.{ℕ, _+_}
+use lib.ListN.{length}
 use Rattle.meaning.specs.Below.{first}
 use Rattle.meaning.specs.Table.{table}
 use Rattle.meaning.specs.Answer.{Answer, accepted, Check, decide}
@@ -25,19 +26,20 @@ use Rattle.image.proofs.Carry.{first-wrong-same}
 use Rattle.course.specs.Course.{Read, Ready, Ends}
 use Rattle.course.specs.declared.Ended.{Ended}
 use Rattle.engine.specs.declared.tables.Judged.{Judged}
-use Rattle.engine.specs.Said.{Judges, lent-checks}
+use Rattle.engine.specs.Said.{Judges, Fitting, lent-checks}
 use Rattle.engine.proofs.Starts.{refused-too, accepted-if}
 use Rattle.engine.proofs.Lent.{lent-same, long-is, fits-is, few-is, room-is}
 
 -- The table is accepted: what the pass and the stages have told of its rows.
-pub record Accepted (bs : List ℕ) (s : Pass) (j : Judged) (index higher takers truths heads next sorts a b : List ℕ) : Type 0 where
-  pub judged : Judges bs s j index higher
+pub record Accepted (bs : List ℕ) (s : Pass) (j : Judged) (reach : ℕ) (index higher takers truths heads next sorts a b : List ℕ) : Type 0 where
+  pub judged : Judges bs s j reach index higher
   pub arcs : Arcs (table bs) (s .at) takers heads next
   pub others : Others (table bs) (s .at) truths sorts a b
   pub zero-is : j .number ≡ 0
+  pub fits : Fitting bs reach (length index) (length takers) (length truths) (length next)
 
-module _ {bs : List ℕ} {s : Pass} {j : Judged} {index higher takers truths heads next sorts a b : List ℕ}
-    (known : Accepted bs s j index higher takers truths heads next sorts a b) where
+module _ {bs : List ℕ} {s : Pass} {j : Judged} {reach : ℕ} {index higher takers truths heads next sorts a b : List ℕ}
+    (known : Accepted bs s j reach index higher takers truths heads next sorts a b) where
   -- The rows hold all records.
   whole : s .at ≡ table bs .records
   whole = known .judged .whole (known .zero-is)
@@ -54,7 +56,7 @@ module _ {bs : List ℕ} {s : Pass} {j : Judged} {index higher takers truths hea
   table-fine : check bs ≡ accepted 0
   table-fine = accepted-if bs (ap (λ (a : Answer). a .number) (sym (known .judged .answer)) ∙ known .zero-is)
 
-  pub read : Read bs (record { sorts = sorts; a = a; b = b }) index higher takers truths heads next (j .reach)
+  pub read : Read bs (record { sorts = sorts; a = a; b = b }) index higher takers truths heads next reach
   read =
       record {
         sound = table-fine;
@@ -66,6 +68,15 @@ module _ {bs : List ℕ} {s : Pass} {j : Judged} {index higher takers truths hea
         takers-hold = gathered (table bs) 3 0 (all-arcs .taking);
         truths-hold = gathered (table bs) 4 0 (all-others .wanting);
         chains = all-arcs .chains;
+        housing =
+            record {
+              eighths = known .fits .eighths;
+              whole = known .fits .whole;
+              enough = known .judged .least (known .zero-is) (length takers) (known .fits .any) (known .fits .roomy);
+            };
+        index-long = known .fits .rows-are;
+        truths-long = known .fits .wants-are;
+        links = known .fits .links-are;
       }
 
 module _ (bs img ws report : List ℕ) where
@@ -89,8 +100,8 @@ module _ (bs img ws report : List ℕ) where
   refused-by-table e n =
       refuses (in-order ∙ refused-too (table-checks bs) behind (λ z. n (ap (λ (b : Answer). b .number) e ∙ z)) ∙ sym e) n
 
-  module _ {s : Pass} {j : Judged} {index higher takers truths heads next sorts a b : List ℕ}
-      (known : Accepted bs s j index higher takers truths heads next sorts a b) where
+  module _ {s : Pass} {j : Judged} {reach : ℕ} {index higher takers truths heads next sorts a b : List ℕ}
+      (known : Accepted bs s j reach index higher takers truths heads next sorts a b) where
     abbrev timings : Intervals
     timings = record { sorts = sorts; a = a; b = b }
 

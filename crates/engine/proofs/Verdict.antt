@@ -22,9 +22,9 @@ use Rattle.meaning.proofs.Same.{of-kind, shown-arc, shown-priority}
 use Rattle.meaning.proofs.Rows.{transition-decides, conflict-decides}
 use Rattle.meaning.proofs.Tables.{arc-transition}
 use Rattle.table.specs.declared.Pass.{Pass}
-use Rattle.table.specs.Index.{Scanned, Reaches, names-unknown-at, none-of, lone}
+use Rattle.table.specs.Index.{extent-of, Scanned, Reaches, Roomy, names-unknown-at, none-of, lone}
 use Rattle.table.proofs.Carry.{Clean, clean-of, shown, unknown-same, none-same, lone-same, written-bit}
-use Rattle.table.proofs.Reach.{Below, below-of, reaches-of, named-below}
+use Rattle.table.proofs.Reach.{Below, below-of, reaches-of, roomy-reach, named-below}
 use Rattle.net.specs.Grow.{names, Grown}
 use Rattle.net.specs.Links.{Linked, Chained}
 use Rattle.net.specs.Rows.{Gathered, Conflicts}
@@ -39,8 +39,8 @@ use Rattle.engine.specs.Said.{Judges}
 use Rattle.engine.proofs.Stages.{from-5, from-6, from-7, from-8, from-9, Left, past-1, stops, passes, accepts}
 
 -- A refusal says nothing of the rows.
-pub refusal : {bs : List ℕ} {s : Pass} {j : Judged} {index higher : List ℕ} → 0 < j .number → refused (j .number) (j .at) ≡ check bs
-    → Judges bs s j index higher
+pub refusal : {bs : List ℕ} {s : Pass} {j : Judged} {reach : ℕ} {index higher : List ℕ} → 0 < j .number → refused (j .number) (j .at) ≡ check bs
+    → Judges bs s j reach index higher
 refusal l e =
     record {
       answer = e;
@@ -48,23 +48,26 @@ refusal l e =
       indexed = λ z. absurd (omega arith);
       reaches = λ z. absurd (omega arith);
       below = λ z. absurd (omega arith);
+      least = λ z. absurd (omega arith);
       higher-is = λ z. absurd (omega arith);
     }
 
 -- WHAT IS KNOWN BEHIND THE STAGES
 
--- Behind 1 to 4: the pass came to the end, no record has a fault, the index holds them all, and nothing goes past the reach.
-pub record Faultless (bs : List ℕ) (s : Pass) (index : List ℕ) : Type 0 where
+-- Behind 1 to 4: the pass came to the end, no record has a fault, the index holds them all, nothing goes past the reach, and
+-- the reach goes no further than it must.
+pub record Faultless (bs : List ℕ) (s : Pass) (reach : ℕ) (index : List ℕ) : Type 0 where
   pub left : Left bs (from-5 bs)
   pub few : table bs .records ≤ 1024
   pub whole : s .at ≡ table bs .records
   pub clean : Clean (table bs) index
-  pub below : Below (table bs) (s .reach)
-  pub reaching : Reaches index (s .reach)
+  pub below : Below (table bs) (reach)
+  pub reaching : Reaches index (reach)
+  pub least : (n : ℕ) → 0 < n → Roomy (table bs) n → reach ≤ n
 
 -- Behind 5 and the later stages, the checks cs being left: nor does a record name what the table has not.
-pub record Past (bs : List ℕ) (s : Pass) (index : List ℕ) (cs : List Check) : Type 0 where
-  pub fine : Faultless bs s index
+pub record Past (bs : List ℕ) (s : Pass) (reach : ℕ) (index : List ℕ) (cs : List Check) : Type 0 where
+  pub fine : Faultless bs s reach index
   pub known : (r : ℕ) → r < table bs .records → names-unknown-at (table bs) index r ≡ false
   pub left : Left bs cs
 
@@ -80,7 +83,7 @@ reached n p e l = omega (arith, first-le n p)
 -- THE STAGES
 
 -- At most 1,024 records.
-few-records : (bs : List ℕ) → bad-length bs ≡ false → table bs .records ≤ 1024
+pub few-records : (bs : List ℕ) → bad-length bs ≡ false → table bs .records ≤ 1024
 unfolding table bad-length
 few-records bs e = omega (arith, ltb-false 8192 (length bs) (or-false-right (not (eqb (length bs % 8) 0)) (ltb 8192 (length bs)) e))
 
@@ -98,8 +101,8 @@ module _ (bs : List ℕ) {s : Pass} {index : List ℕ} (right : bad-length bs �
       )
 
   -- It comes to the end.
-  pub no-fault : table bs .records ≤ s .at → Faultless bs s index
-  no-fault h =
+  pub no-fault : {reach : ℕ} → reach ≡ extent-of (table bs) → table bs .records ≤ s .at → Faultless bs s reach index
+  no-fault extent h =
       let clean = clean-of (table bs) s index scanned (scanned .number ∙ rw (le-ltb (s .at) (table bs .records) h)) in
       let whole : s .at ≡ table bs .records = scanned .at ∙ reached (table bs .records) (faulty (table bs)) (scanned .at) h in
       record {
@@ -107,12 +110,13 @@ module _ (bs : List ℕ) {s : Pass} {index : List ℕ} (right : bad-length bs �
         few = few-records bs right;
         whole = whole;
         clean = clean;
-        below = below-of scanned h;
-        reaching = reaches-of scanned whole clean;
+        below = below-of (table bs) extent;
+        reaching = reaches-of extent clean;
+        least = λ n any room. roomy-reach extent clean room any;
       }
 
 -- 5: the first record that names what the index has not.
-module _ {bs : List ℕ} {s : Pass} {index : List ℕ} (f : Faultless bs s index) {u : ℕ}
+module _ {bs : List ℕ} {s : Pass} {reach : ℕ} {index : List ℕ} (f : Faultless bs s reach index) {u : ℕ}
     (search : u ≡ first (table bs .records) (names-unknown-at (table bs) index)) where
   unknowns : u ≡ first (table bs .records) (unknown (table bs))
   unknowns = search ∙ first-same (table bs .records) _ _ (unknown-same (f .clean))
@@ -120,7 +124,7 @@ module _ {bs : List ℕ} {s : Pass} {index : List ℕ} (f : Faultless bs s index
   pub verdict-5 : u < table bs .records → refused 5 u ≡ check bs
   verdict-5 = stops bs _ (from-6 bs) (f .left) unknowns
 
-  pub all-known : table bs .records ≤ u → Past bs s index (from-6 bs)
+  pub all-known : table bs .records ≤ u → Past bs s reach index (from-6 bs)
   all-known h =
       record {
         fine = f;
@@ -128,35 +132,35 @@ module _ {bs : List ℕ} {s : Pass} {index : List ℕ} (f : Faultless bs s index
         left = passes bs _ (from-6 bs) (f .left) unknowns h;
       }
 
-module _ {bs : List ℕ} {s : Pass} {index : List ℕ} where
+module _ {bs : List ℕ} {s : Pass} {reach : ℕ} {index : List ℕ} where
   -- A stage more has found nothing.
-  further : {cs ds : List Check} → Past bs s index cs → Left bs ds → Past bs s index ds
+  further : {cs ds : List Check} → Past bs s reach index cs → Left bs ds → Past bs s reach index ds
   further k left = record { fine = k .fine; known = k .known; left = left }
 
   -- 6: no place, or no transition.
-  module _ (k : Past bs s index (from-6 bs)) {m : ℕ} (search : m ≡ first 2 (none-of index)) where
+  module _ (k : Past bs s reach index (from-6 bs)) {m : ℕ} (search : m ≡ first 2 (none-of index)) where
     empties : m ≡ first 2 (empty (table bs))
     empties = search ∙ first-same 2 _ _ (none-same (k .fine .clean))
 
     pub verdict-6 : m < 2 → refused 6 m ≡ check bs
     verdict-6 = stops bs _ (from-7 bs) (k .left) empties
 
-    pub not-empty : 2 ≤ m → Past bs s index (from-7 bs)
+    pub not-empty : 2 ≤ m → Past bs s reach index (from-7 bs)
     not-empty h = further k (passes bs _ (from-7 bs) (k .left) empties h)
 
   -- 7: the first place or transition without an arc.
-  module _ (k : Past bs s index (from-7 bs)) {l : ℕ} (search : l ≡ first 192 (lone index)) where
+  module _ (k : Past bs s reach index (from-7 bs)) {l : ℕ} (search : l ≡ first 192 (lone index)) where
     lones : l ≡ first 192 (isolated (table bs))
     lones = search ∙ first-same 192 _ _ (lone-same (k .fine .clean))
 
     pub verdict-7 : l < 192 → refused 7 l ≡ check bs
     verdict-7 = stops bs _ (from-8 bs) (k .left) lones
 
-    pub none-lone : 192 ≤ l → Past bs s index (from-8 bs)
+    pub none-lone : 192 ≤ l → Past bs s reach index (from-8 bs)
     none-lone h = further k (passes bs _ (from-8 bs) (k .left) lones h)
 
   -- The ranges of an arc and of a priority.
-  module _ (f : Faultless bs s index) where
+  module _ (f : Faultless bs s reach index) where
     arcs : (r : ℕ) → r < table bs .records → table bs .kind r ≡ 3 → (table bs .one r < 128) × (table bs .two r < 64)
     arcs r h e =
         let range = shown-arc (of-kind (table bs) r 3 (shown (f .clean) r h) e) in
@@ -183,16 +187,16 @@ module _ {bs : List ℕ} {s : Pass} {index : List ℕ} where
     chains-all l = rw (f .whole) at l
 
   -- A transition that an arc or a priority names by byte 2 is below the reach, as every byte 1 is.
-  module _ {cs : List Check} (k : Past bs s index cs) where
+  module _ {cs : List Check} (k : Past bs s reach index cs) where
     pub both-below : (r : ℕ) → r < table bs .records
-        → (table bs .one r < s .reach) × ((is (table bs) 3 r || is (table bs) 5 r) ≡ true → table bs .two r < s .reach)
+        → (table bs .one r < reach) × ((is (table bs) 3 r || is (table bs) 5 r) ≡ true → table bs .two r < reach)
     both-below r h = (k .fine .below r h, named-below (k .fine .clean) (k .fine .reaching) r h (k .known r h))
 
-    pub arcs-below : (r : ℕ) → r < table bs .records → table bs .kind r ≡ 3 → table bs .two r < s .reach
+    pub arcs-below : (r : ℕ) → r < table bs .records → table bs .kind r ≡ 3 → table bs .two r < reach
     arcs-below r h e = both-below r h .1 (rw e)
 
   -- 8: the first transition above itself by the closed rows.
-  module _ (k : Past bs s index (from-8 bs)) {below : List ℕ} (closed : Closed index below) {o : ℕ}
+  module _ (k : Past bs s reach index (from-8 bs)) {below : List ℕ} (closed : Closed index below) {o : ℕ}
       (search : o ≡ first 64 (λ t. bit (getD below t 0) t)) where
     circles : o ≡ first 64 (circle (table bs))
     circles = search ∙ circle-same (table bs) index (written-bit (k .fine .clean)) (priorities (k .fine)) closed
@@ -200,11 +204,11 @@ module _ {bs : List ℕ} {s : Pass} {index : List ℕ} where
     pub verdict-8 : o < 64 → refused 8 o ≡ check bs
     verdict-8 = stops bs _ (from-9 bs) (k .left) circles
 
-    pub no-circle : 64 ≤ o → Past bs s index (from-9 bs)
+    pub no-circle : 64 ≤ o → Past bs s reach index (from-9 bs)
     no-circle h = further k (passes bs _ (from-9 bs) (k .left) circles h)
 
   -- 9: the first pair that the rows leave unsettled; where there is none the table is accepted.
-  module _ (k : Past bs s index (from-9 bs)) {below above takers truths conflicts : List ℕ} (closed : Closed index below) (turned : Turned below above)
+  module _ (k : Past bs s reach index (from-9 bs)) {below above takers truths conflicts : List ℕ} (closed : Closed index below) (turned : Turned below above)
       (taking : Grown 128 (s .at) (names (table bs) 3 0) takers) (wanting : Grown 128 (s .at) (names (table bs) 4 0) truths)
       (conflicting : Conflicts takers conflicts) {q : ℕ} (search : q ≡ first 4096 (loose (table bs) conflicts below above index truths)) where
     say : Say (table bs) conflicts below above index truths

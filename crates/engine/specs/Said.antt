@@ -2,7 +2,7 @@
 use mathlib.Core.Bool.{true, cond, not, _&&_, _||_}
 use mathlib.Core.List.{List, _∷_}
 use mathlib.Core.Path.{_≡_}
-use Prim.Native.Nat.{ℕ, _+_, _*_, _/_, _%_, _<_}
+use Prim.Native.Nat.{ℕ, _+_, _*_, _/_, _%_, _≤_, _<_}
 use lib.Dec.{eqb, ltb}
 use lib.ListN.{length, getD, set}
 use Rattle.meaning.specs.Bytes.{bit}
@@ -13,7 +13,7 @@ use Rattle.meaning.specs.Defined.{check}
 use Rattle.meaning.specs.Calls.{word-checks}
 use Rattle.records.specs.declared.Rec.{Rec}
 use Rattle.table.specs.declared.Pass.{Pass}
-use Rattle.table.specs.Index.{Indexed, Reaches}
+use Rattle.table.specs.Index.{extent-of, Indexed, Reaches, Roomy}
 use Rattle.timing.specs.declared.Intervals.{Intervals}
 use Rattle.image.specs.Fit.{wrong-by}
 use Rattle.engine.specs.declared.Answer.{Answer}
@@ -23,15 +23,28 @@ use Rattle.engine.specs.declared.tables.Judged.{Judged}
 abbrev pub said : Answer → meaning.Answer
 said a = record { number = a .number; at = a .at; cycles = a .cycles }
 
+-- The reach is the table's extent; and so many rows of the index, of takers and of wants, and so many links are enough for the table: there are whole
+-- eights of numbers, each number of the table is one of them, and each record has its link.
+pub record Fitting (bs : List ℕ) (reach rows numbers wants links : ℕ) : Type 0 where
+  pub extent : reach ≡ extent-of (table bs)
+  pub roomy : Roomy (table bs) numbers
+  pub rows-are : rows ≡ 8 * numbers
+  pub wants-are : wants ≡ numbers
+  pub links-are : table bs .records ≤ links
+  pub eighths : ℕ
+  pub whole : numbers ≡ 8 * eighths
+  pub any : 0 < numbers
+
 -- What the stages of a table come to: its answer; and, where it is accepted, the pass came to its end, the index holds all its records and goes no further
--- than the reach, no record's byte 1 is at the reach or past it and no transition that byte 2 names, and the rows have those above each transition.
-pub record Judges (bs : List ℕ) (s : Pass) (j : Judged) (index higher : List ℕ) : Type 0 where
+-- than the reach, no record's byte 1 is at the reach or past it and no transition that byte 2 names, the reach goes no further than it must, and the rows have those above each transition.
+pub record Judges (bs : List ℕ) (s : Pass) (j : Judged) (reach : ℕ) (index higher : List ℕ) : Type 0 where
   pub answer : meaning.refused (j .number) (j .at) ≡ check bs
   pub whole : j .number ≡ 0 → s .at ≡ table bs .records
   pub indexed : j .number ≡ 0 → Indexed (table bs) (table bs .records) index
-  pub reaches : j .number ≡ 0 → Reaches index (j .reach)
+  pub reaches : j .number ≡ 0 → Reaches index (reach)
   pub below : j .number ≡ 0 → (r : ℕ) → r < table bs .records
-      → (table bs .one r < j .reach) × ((is (table bs) 3 r || is (table bs) 5 r) ≡ true → table bs .two r < j .reach)
+      → (table bs .one r < reach) × ((is (table bs) 3 r || is (table bs) 5 r) ≡ true → table bs .two r < reach)
+  pub least : j .number ≡ 0 → (n : ℕ) → 0 < n → Roomy (table bs) n → reach ≤ n
   pub higher-is : j .number ≡ 0 → (t u : ℕ) → t < 64 → u < 64 → bit (getD higher t 0) u ≡ above (table bs) u t
 
 -- A record that declares a place stores its first tokens in the place's two bytes; any other stores nothing.

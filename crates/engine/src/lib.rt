@@ -1,7 +1,13 @@
 // The engine's calls over lent bytes: check, start, run, lookup. Each call has its answer table in docs/ENGINE.md.
-use timing::Intervals;
+ghost use mathlib.Core.Bool.{true, false};
+ghost use mathlib.Core.Path.{_≡_};
+ghost use Prim.Native.Nat.{_≤_};
+ghost use lib.ListN.{length, replicate};
+ghost use Rattle.meaning.specs.Table.{table};
+ghost use Rattle.meaning.specs.Defined.{bad-length};
+ghost use Rattle.table.specs.Index.{extent-of};
 ghost use Rattle.meaning.specs.Promise.{Checked, Started, Ran, Looked-up};
-ghost use Rattle.engine.specs.Said.{said};
+ghost use Rattle.engine.specs.Said.{said, Fitting};
 
 mod tables; // tables.rt: answers 2 to 9 of a table
 mod writing; // writing.rt: the image of a fresh net
@@ -14,7 +20,18 @@ pub struct Answer {
     pub cycles: usize,
 }
 
-// check: answers 1 to 9 in the page's order, or accepted.
+// Are so many numbers and so many records enough for a table of this reach?
+fn holds(t: &[u8], reach: usize, numbers: usize, records: usize) -> bool
+    ensures { λ r. ⌜ (r ≡ true → (reach ≤ numbers) × (table (now (t .entry)) .records ≤ records)) ⌝ }
+{
+    if reach <= numbers {
+        t.len() / 8 <= records
+    } else {
+        false
+    }
+}
+
+// check: answers 1 to 9 in the page's order, or accepted. A small table is read into small rows, since most of a short call is clearing them.
 pub fn check(t: &[u8]) -> Answer
     ensures { λ a. ⌜ Checked (now (t .entry)) (said a) ⌝ }
 {
@@ -32,37 +49,95 @@ pub fn check(t: &[u8]) -> Answer
             cycles: 0,
         };
     }
-    let mut index = [0u64; 768];
+    let reach = table::extent(t);
+    if holds(t, reach, 32, 256) {
+        return check_small(t, reach);
+    }
+    if holds(t, reach, 64, 512) {
+        return check_middle(t, reach);
+    }
+    check_large(t, reach)
+}
+
+// The same for a table whose length is right, with rows for 32 numbers and links for 256 records; for 64 and 512; and for all that there can be.
+fn check_small(t: &[u8], reach: usize) -> Answer
+    requires { ⌜ bad-length (now t) ≡ false ⌝ }
+    requires { ⌜ (reach ≡ extent-of (table (now t))) × (reach ≤ 32) × (table (now t) .records ≤ 256) ⌝ }
+    ensures { λ a. ⌜ Checked (now (t .entry)) (said a) ⌝ }
+{
+    let mut index = [0u64; 256];
+    let mut takers = [0u64; 32];
+    let mut truths = [0u64; 32];
+    let mut next = [0u16; 256];
+    check_in(t, reach, &mut index, &mut takers, &mut truths, &mut next)
+}
+
+fn check_middle(t: &[u8], reach: usize) -> Answer
+    requires { ⌜ bad-length (now t) ≡ false ⌝ }
+    requires { ⌜ (reach ≡ extent-of (table (now t))) × (reach ≤ 64) × (table (now t) .records ≤ 512) ⌝ }
+    ensures { λ a. ⌜ Checked (now (t .entry)) (said a) ⌝ }
+{
+    let mut index = [0u64; 512];
+    let mut takers = [0u64; 64];
+    let mut truths = [0u64; 64];
+    let mut next = [0u16; 512];
+    check_in(t, reach, &mut index, &mut takers, &mut truths, &mut next)
+}
+
+fn check_large(t: &[u8], reach: usize) -> Answer
+    requires { ⌜ bad-length (now t) ≡ false ⌝ }
+    requires { ⌜ reach ≡ extent-of (table (now t)) ⌝ }
+    ensures { λ a. ⌜ Checked (now (t .entry)) (said a) ⌝ }
+{
+    let mut index = [0u64; 1024];
     let mut takers = [0u64; 128];
     let mut truths = [0u64; 128];
+    let mut next = [0u16; 1024];
+    check_in(t, reach, &mut index, &mut takers, &mut truths, &mut next)
+}
+
+// The same with these rows, which are lent empty and have room for the table.
+fn check_in(
+    t: &[u8],
+    reach: usize,
+    index: &mut [u64],
+    takers: &mut [u64],
+    truths: &mut [u64],
+    next: &mut [u16],
+) -> Answer
+    requires { ⌜ bad-length (now t) ≡ false ⌝ }
+    requires { ⌜ Fitting (now t) reach (length (now index)) (length (now takers)) (length (now truths)) (length (now next)) ⌝ }
+    requires { ⌜ (now index ≡ replicate (length (now index)) 0) × (now takers ≡ replicate (length (now takers)) 0) × (now truths ≡ replicate (length (now truths)) 0) × (now next ≡ replicate (length (now next)) 0) ⌝ }
+    ensures { λ a. ⌜ Checked (now (t .entry)) (said a) ⌝ }
+{
     let mut sorts = [0u8; 64];
     let mut a = [0u16; 64];
     let mut b = [0u16; 64];
     let mut heads = [0u16; 256];
-    let mut next = [0u16; 1024];
     let pass = net::scan(
         t,
-        &mut index,
-        &mut takers,
-        &mut truths,
+        index,
+        takers,
+        truths,
         &mut sorts,
         &mut a,
         &mut b,
         &mut heads,
-        &mut next,
+        next,
     );
     let mut below = [0u64; 64];
     let mut above = [0u64; 64];
     let j = tables::judge(
         t,
         pass,
-        &index,
+        reach,
+        index,
         &mut below,
         &mut above,
-        &takers,
-        &truths,
+        takers,
+        truths,
         &heads,
-        &next,
+        next,
     );
     Answer {
         number: j.number,
@@ -91,7 +166,7 @@ pub fn start(t: &[u8], image: &mut [u8]) -> Answer
 }
 
 // run: answers 1 to 9, then 10, 11 and 12, then one cycle a word, and 13 at a cycle. A refusal before any cycle writes nothing; 13 keeps the
-// finished cycles and nothing of the refused one.
+// finished cycles and nothing of the refused one. A small table is read into small rows.
 pub fn run(t: &[u8], image: &mut [u8], words: &[u8], report: &mut [u8]) -> Answer
     ensures { λ a. ⌜ Ran (now (t .entry)) (now (image .entry)) (now (words .entry)) (now (report .entry)) (said a) (now (image .exit)) (now (report .exit)) ⌝ }
 {
@@ -109,37 +184,128 @@ pub fn run(t: &[u8], image: &mut [u8], words: &[u8], report: &mut [u8]) -> Answe
             cycles: 0,
         };
     }
-    let mut index = [0u64; 768];
+    let reach = table::extent(t);
+    if holds(t, reach, 32, 256) {
+        return run_small(t, image, words, report, reach);
+    }
+    if holds(t, reach, 64, 512) {
+        return run_middle(t, image, words, report, reach);
+    }
+    run_large(t, image, words, report, reach)
+}
+
+// The same for a table whose length is right, with rows for 32 numbers and links for 256 records; for 64 and 512; and for all that there can be.
+fn run_small(t: &[u8], image: &mut [u8], words: &[u8], report: &mut [u8], reach: usize) -> Answer
+    requires { ⌜ bad-length (now t) ≡ false ⌝ }
+    requires { ⌜ (reach ≡ extent-of (table (now t))) × (reach ≤ 32) × (table (now t) .records ≤ 256) ⌝ }
+    ensures { λ a. ⌜ Ran (now (t .entry)) (now (image .entry)) (now (words .entry)) (now (report .entry)) (said a) (now (image .exit)) (now (report .exit)) ⌝ }
+{
+    let mut index = [0u64; 256];
+    let mut takers = [0u64; 32];
+    let mut truths = [0u64; 32];
+    let mut next = [0u16; 256];
+    run_in(
+        t,
+        image,
+        words,
+        report,
+        reach,
+        &mut index,
+        &mut takers,
+        &mut truths,
+        &mut next,
+    )
+}
+
+fn run_middle(t: &[u8], image: &mut [u8], words: &[u8], report: &mut [u8], reach: usize) -> Answer
+    requires { ⌜ bad-length (now t) ≡ false ⌝ }
+    requires { ⌜ (reach ≡ extent-of (table (now t))) × (reach ≤ 64) × (table (now t) .records ≤ 512) ⌝ }
+    ensures { λ a. ⌜ Ran (now (t .entry)) (now (image .entry)) (now (words .entry)) (now (report .entry)) (said a) (now (image .exit)) (now (report .exit)) ⌝ }
+{
+    let mut index = [0u64; 512];
+    let mut takers = [0u64; 64];
+    let mut truths = [0u64; 64];
+    let mut next = [0u16; 512];
+    run_in(
+        t,
+        image,
+        words,
+        report,
+        reach,
+        &mut index,
+        &mut takers,
+        &mut truths,
+        &mut next,
+    )
+}
+
+fn run_large(t: &[u8], image: &mut [u8], words: &[u8], report: &mut [u8], reach: usize) -> Answer
+    requires { ⌜ bad-length (now t) ≡ false ⌝ }
+    requires { ⌜ reach ≡ extent-of (table (now t)) ⌝ }
+    ensures { λ a. ⌜ Ran (now (t .entry)) (now (image .entry)) (now (words .entry)) (now (report .entry)) (said a) (now (image .exit)) (now (report .exit)) ⌝ }
+{
+    let mut index = [0u64; 1024];
     let mut takers = [0u64; 128];
     let mut truths = [0u64; 128];
+    let mut next = [0u16; 1024];
+    run_in(
+        t,
+        image,
+        words,
+        report,
+        reach,
+        &mut index,
+        &mut takers,
+        &mut truths,
+        &mut next,
+    )
+}
+
+// The same with these rows, which are lent empty and have room for the table.
+fn run_in(
+    t: &[u8],
+    image: &mut [u8],
+    words: &[u8],
+    report: &mut [u8],
+    reach: usize,
+    index: &mut [u64],
+    takers: &mut [u64],
+    truths: &mut [u64],
+    next: &mut [u16],
+) -> Answer
+    requires { ⌜ bad-length (now t) ≡ false ⌝ }
+    requires { ⌜ Fitting (now t) reach (length (now index)) (length (now takers)) (length (now truths)) (length (now next)) ⌝ }
+    requires { ⌜ (now index ≡ replicate (length (now index)) 0) × (now takers ≡ replicate (length (now takers)) 0) × (now truths ≡ replicate (length (now truths)) 0) × (now next ≡ replicate (length (now next)) 0) ⌝ }
+    ensures { λ a. ⌜ Ran (now (t .entry)) (now (image .entry)) (now (words .entry)) (now (report .entry)) (said a) (now (image .exit)) (now (report .exit)) ⌝ }
+{
     let mut sorts = [0u8; 64];
     let mut a = [0u16; 64];
     let mut b = [0u16; 64];
     let mut heads = [0u16; 256];
-    let mut next = [0u16; 1024];
     let pass = net::scan(
         t,
-        &mut index,
-        &mut takers,
-        &mut truths,
+        index,
+        takers,
+        truths,
         &mut sorts,
         &mut a,
         &mut b,
         &mut heads,
-        &mut next,
+        next,
     );
     let mut below = [0u64; 64];
     let mut above = [0u64; 64];
     let judged = tables::judge(
         t,
         pass,
-        &index,
+        reach,
+        index,
         &mut below,
         &mut above,
-        &takers,
-        &truths,
+        takers,
+        truths,
         &heads,
-        &next,
+        next,
     );
     if judged.number != 0 {
         return Answer {
@@ -148,8 +314,7 @@ pub fn run(t: &[u8], image: &mut [u8], words: &[u8], report: &mut [u8]) -> Answe
             cycles: 0,
         };
     }
-    let x = Intervals { sorts, a, b };
-    let v = playing::judge_lent(image, words, report, &index, x);
+    let v = playing::judge_lent(image, words, report, index, reach, &sorts, &a, &b);
     if v.number != 0 {
         return Answer {
             number: v.number,
@@ -162,14 +327,16 @@ pub fn run(t: &[u8], image: &mut [u8], words: &[u8], report: &mut [u8]) -> Answe
         image,
         words,
         report,
-        x,
-        &index,
+        &sorts,
+        &a,
+        &b,
+        index,
         &above,
-        &takers,
-        &truths,
+        takers,
+        truths,
         &heads,
-        &next,
-        judged.reach,
+        next,
+        reach,
     );
     Answer {
         number: e.number,

@@ -1,7 +1,7 @@
 // What is lent to run beside an accepted table: answers 10, 11 and 12, and the cycles over it.
 use course::Ended;
-use timing::Intervals;
 ghost use mathlib.Core.Path.{_≡_};
+ghost use Prim.Native.Nat.{_≤_};
 ghost use Rattle.meaning.specs.Answer.{accepted, refused, decide};
 ghost use Rattle.course.specs.Course.{Read, Ready, Ends};
 ghost use Rattle.engine.specs.Said.{lent-checks};
@@ -12,15 +12,19 @@ pub struct Finding {
     pub at: usize,
 }
 
-// Answers 10, 11 and 12 of what is lent beside an accepted table, by its index and its intervals.
+// Answers 10, 11 and 12 of what is lent beside an accepted table, by its index and the sort, a and b of each transition.
 pub fn judge_lent(
     image: &[u8],
     words: &[u8],
     report: &[u8],
-    index: &[u64; 768],
-    x: Intervals,
+    index: &[u64],
+    reach: usize,
+    sorts: &[u8; 64],
+    a: &[u16; 64],
+    b: &[u16; 64],
 ) -> Finding
-    ensures { λ v. ⌜ refused (v .number) (v .at) ≡ decide (lent-checks (now (image .entry)) (now (words .entry)) (now (report .entry)) (now (index .entry)) x) (accepted 0) ⌝ }
+    requires { ⌜ reach ≤ 128 ⌝ }
+    ensures { λ v. ⌜ refused (v .number) (v .at) ≡ decide (lent-checks (now (image .entry)) (now (words .entry)) (now (report .entry)) (now (index .entry)) (record { sorts = now (sorts .entry); a = now (a .entry); b = now (b .entry) })) (accepted 0) ⌝ }
 {
     if image.len() != 768 {
         return Finding {
@@ -28,7 +32,7 @@ pub fn judge_lent(
             at: 192,
         };
     }
-    let wrong = image::fitting::first_wrong(image, index, x);
+    let wrong = image::fitting::first_wrong(image, index, reach, sorts, a, b);
     if wrong < 192 {
         return Finding {
             number: 10,
@@ -47,22 +51,25 @@ pub fn judge_lent(
     Finding { number: 0, at: 0 }
 }
 
-// The cycles of a call whose checks are passed. With no words nothing is done; else the input arcs get their arrays.
+// The cycles of a call whose checks are passed. With no words nothing is done; else the input arcs get their arrays, with 16, 32 or 64 rows
+// where no place is at that number or past it.
 pub fn play(
     t: &[u8],
     image: &mut [u8],
     words: &[u8],
     report: &mut [u8],
-    x: Intervals,
-    index: &[u64; 768],
+    sorts: &[u8; 64],
+    a: &[u16; 64],
+    b: &[u16; 64],
+    index: &[u64],
     above: &[u64; 64],
-    takers: &[u64; 128],
-    truths: &[u64; 128],
+    takers: &[u64],
+    truths: &[u64],
     heads: &[u16; 256],
-    next: &[u16; 1024],
+    next: &[u16],
     reach: usize,
 ) -> Ended
-    requires { ⌜ Read (now t) x (now index) (now above) (now takers) (now truths) (now heads) (now next) reach ⌝ }
+    requires { ⌜ Read (now t) (record { sorts = now sorts; a = now a; b = now b }) (now index) (now above) (now takers) (now truths) (now heads) (now next) reach ⌝ }
     requires { ⌜ Ready (now t) (now image) (now words) (now report) ⌝ }
     ensures { λ e. ⌜ Ends (now (t .entry)) (now (image .entry)) (now (words .entry)) (now (report .entry)) e (now (image .exit)) (now (report .exit)) ⌝ }
 {
@@ -73,6 +80,72 @@ pub fn play(
             cycles: 0,
         };
     }
+    if reach <= 16 {
+        let mut w = [[0u16; 64]; 16];
+        let mut s = [[0u8; 64]; 16];
+        return course::course(
+            t,
+            image,
+            words,
+            report,
+            sorts,
+            a,
+            b,
+            index,
+            above,
+            &mut w,
+            &mut s,
+            takers,
+            truths,
+            heads,
+            next,
+            reach,
+        );
+    }
+    if reach <= 32 {
+        let mut w = [[0u16; 64]; 32];
+        let mut s = [[0u8; 64]; 32];
+        return course::course(
+            t,
+            image,
+            words,
+            report,
+            sorts,
+            a,
+            b,
+            index,
+            above,
+            &mut w,
+            &mut s,
+            takers,
+            truths,
+            heads,
+            next,
+            reach,
+        );
+    }
+    if reach <= 64 {
+        let mut w = [[0u16; 64]; 64];
+        let mut s = [[0u8; 64]; 64];
+        return course::course(
+            t,
+            image,
+            words,
+            report,
+            sorts,
+            a,
+            b,
+            index,
+            above,
+            &mut w,
+            &mut s,
+            takers,
+            truths,
+            heads,
+            next,
+            reach,
+        );
+    }
     let mut w = [[0u16; 64]; 128];
     let mut s = [[0u8; 64]; 128];
     course::course(
@@ -80,7 +153,9 @@ pub fn play(
         image,
         words,
         report,
-        x,
+        sorts,
+        a,
+        b,
         index,
         above,
         &mut w,

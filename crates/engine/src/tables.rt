@@ -2,49 +2,49 @@
 use table::Pass;
 ghost use mathlib.Core.Bool.{false};
 ghost use mathlib.Core.Path.{_≡_};
-ghost use lib.ListN.{replicate};
+ghost use lib.ListN.{length, replicate};
 ghost use Rattle.meaning.specs.Table.{table};
 ghost use Rattle.meaning.specs.Defined.{bad-length};
 ghost use Rattle.table.specs.Index.{Scanned};
 ghost use Rattle.net.specs.Grow.{names, Grown};
 ghost use Rattle.net.specs.Pass.{Arcs};
-ghost use Rattle.engine.specs.Said.{Judges};
+ghost use Rattle.engine.specs.Said.{Fitting, Judges};
 
-// What is found of a table: an answer, and one more than the highest number in its records, past which its rows are empty.
+// What is found of a table: an answer, without its cycles.
 pub struct Judged {
     pub number: usize,
     pub at: usize,
-    pub reach: usize,
 }
 
-// Answers 2 to 9 of a table whose length is right and over whose records the pass has gone, one stage after the other. The rows of the closed priority
+// Answers 2 to 9 of a table whose length is right and over whose records the pass has gone, one stage after the other. No number of a
+// record is at the reach or past it. The rows of the closed priority
 // are lent empty and filled on the way, in both directions.
 pub fn judge(
     t: &[u8],
     pass: Pass,
-    index: &[u64; 768],
+    reach: usize,
+    index: &[u64],
     below: &mut [u64; 64],
     above: &mut [u64; 64],
-    takers: &[u64; 128],
-    truths: &[u64; 128],
+    takers: &[u64],
+    truths: &[u64],
     heads: &[u16; 256],
-    next: &[u16; 1024],
+    next: &[u16],
 ) -> Judged
     requires { ⌜ bad-length (now t) ≡ false ⌝ }
     requires { ⌜ Scanned (table (now t)) pass (now index) ⌝ }
     requires { ⌜ Arcs (table (now t)) (pass .at) (now takers) (now heads) (now next) ⌝ }
     requires { ⌜ Grown 128 (pass .at) (names (table (now t)) 4 0) (now truths) ⌝ }
     requires { ⌜ (now below ≡ replicate 64 0) × (now above ≡ replicate 64 0) ⌝ }
-    ensures { λ j. ⌜ Judges (now (t .entry)) pass j (now (index .entry)) (now (above .exit)) ⌝ }
+    requires { ⌜ Fitting (now t) reach (length (now index)) (length (now takers)) (length (now truths)) (length (now next)) ⌝ }
+    ensures { λ j. ⌜ Judges (now (t .entry)) pass j reach (now (index .entry)) (now (above .exit)) ⌝ }
 {
     let n = t.len() / 8;
     let at = pass.at;
-    let reach = pass.reach;
     if at < n {
         return Judged {
             number: records::wide(pass.number),
             at,
-            reach,
         };
     }
     let sound = table::sound(index, reach);
@@ -53,7 +53,6 @@ pub fn judge(
         return Judged {
             number: 5,
             at: unknown,
-            reach,
         };
     }
     let missing = table::first_none(index, reach, sound);
@@ -61,7 +60,6 @@ pub fn judge(
         return Judged {
             number: 6,
             at: missing,
-            reach,
         };
     }
     let lone = table::first_lone(index, reach, sound);
@@ -69,7 +67,6 @@ pub fn judge(
         return Judged {
             number: 7,
             at: lone,
-            reach,
         };
     }
     let most = table::transitions(reach);
@@ -79,7 +76,6 @@ pub fn judge(
         return Judged {
             number: 8,
             at: circle,
-            reach,
         };
     }
     let mut conflicts = [0u64; 64];
@@ -99,12 +95,7 @@ pub fn judge(
         return Judged {
             number: 9,
             at: pair,
-            reach,
         };
     }
-    Judged {
-        number: 0,
-        at: 0,
-        reach,
-    }
+    Judged { number: 0, at: 0 }
 }

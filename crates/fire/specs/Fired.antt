@@ -2,7 +2,7 @@
 use mathlib.Core.Bool.{Bool, true, cond, not, _&&_}
 use mathlib.Core.List.{List}
 use mathlib.Core.Path.{_≡_}
-use Prim.Native.Nat.{ℕ, _-_, _<_}
+use Prim.Native.Nat.{ℕ, _+_, _-_, _<_}
 use lib.Bits.{bitAnd}
 use lib.Dec.{leb, ltb, eqb}
 use lib.ListN.{getD}
@@ -26,6 +26,11 @@ left-enabled m w s takers low high g t = not (some 128 (λ p. in-words low high 
 -- A firable transition stays enabled by what the set g leaves: only where g takes can that stop it.
 abbrev pub pays : List ℕ → List (List ℕ) → List (List ℕ) → List ℕ → List ℕ → List ℕ → ℕ → ℕ → Bool
 pays m w s takers low high g t = left-enabled m w s takers (getD low t 0) (getD high t 0) g t
+
+-- Each place of the two words has its row among so many.
+pub record Housed (rows low high : ℕ) : Type 0 where
+  pub low-in : (k : ℕ) → k < 64 → bit low k ≡ true → k < rows
+  pub high-in : (k : ℕ) → k < 64 → bit high k ≡ true → 64 + k < rows
 
 -- Whoever stands above a transition is ranked lower, and there are 64 ranks.
 pub record Ranks (higher : List ℕ) : Type 0 where

@@ -1,12 +1,12 @@
 // The fired set (definition 6): firable transitions are decided once all above them are, each against what the fired ones above it leave.
-ghost use mathlib.Core.Bool.{false, _&&_};
+ghost use mathlib.Core.Bool.{true, false, _&&_};
 ghost use mathlib.Core.Path.{_≡_};
 ghost use Prim.Native.Nat.{ℕ, _+_, _-_, _≤_, _<_};
-ghost use lib.ListN.{getD, replicate};
+ghost use lib.ListN.{length, getD, replicate};
 ghost use Rattle.meaning.specs.Below.{some};
 ghost use Rattle.meaning.specs.Bytes.{bit};
 ghost use Rattle.net.specs.Rows.{Blank-from};
-ghost use Rattle.fire.specs.Fired.{Ranks, Fires, stopped-at, left-enabled};
+ghost use Rattle.fire.specs.Fired.{Ranks, Fires, Housed, stopped-at, left-enabled};
 ghost use Rattle.fire.specs.Round.{Round};
 ghost use Rattle.fire.specs.Rivals.{takes-from, Rivals};
 
@@ -23,12 +23,13 @@ fn rest_of(tokens: u32, taken: u32) -> u32
     if taken < tokens { tokens - taken } else { 0 }
 }
 
-// Does some arc from a place of the word stop t, where members of g take and with what they leave there? The word has 64 places, from the first on.
+// Does some arc from a place of the word stop t, where members of g take and with what they leave there? The word has 64 places, from the first on,
+// and each that is in it has its rows of weights, of sorts and of takers.
 fn stopped_from(
     m: &[u32; 128],
-    w: &[[u16; 64]; 128],
-    s: &[[u8; 64]; 128],
-    takers: &[u64; 128],
+    w: &[[u16; 64]],
+    s: &[[u8; 64]],
+    takers: &[u64],
     word: u64,
     from: usize,
     g: u64,
@@ -36,6 +37,7 @@ fn stopped_from(
 ) -> bool
     requires { ⌜ from ≤ 64 ⌝ }
     requires { ⌜ t < 64 ⌝ }
+    requires { ⌜ ((k : ℕ) → k < 64 → bit word k ≡ true → (from + k < length (now w)) × (from + k < length (now s)) × (from + k < length (now takers))) ⌝ }
     ensures { λ r. ⌜ r ≡ some 64 (λ p. bit word p && stopped-at (now (m .entry)) (now (w .entry)) (now (s .entry)) (now (takers .entry)) g t (from + p)) ⌝ }
 {
     let mut left = word;
@@ -54,18 +56,19 @@ fn stopped_from(
     false
 }
 
-// Does transition t, whose input arcs come from the places of the two words, stay enabled by what the set g leaves?
+// Does transition t, whose input arcs come from the places of the two words, stay enabled by what the set g leaves? Each of these places has its rows.
 fn decide(
     m: &[u32; 128],
-    w: &[[u16; 64]; 128],
-    s: &[[u8; 64]; 128],
-    takers: &[u64; 128],
+    w: &[[u16; 64]],
+    s: &[[u8; 64]],
+    takers: &[u64],
     low: u64,
     high: u64,
     g: u64,
     t: usize,
 ) -> bool
     requires { ⌜ t < 64 ⌝ }
+    requires { ⌜ Housed (length (now w)) low high × Housed (length (now s)) low high × Housed (length (now takers)) low high ⌝ }
     ensures { λ r. ⌜ r ≡ left-enabled (now (m .entry)) (now (w .entry)) (now (s .entry)) (now (takers .entry)) low high g t ⌝ }
 {
     if g == 0 {
@@ -77,18 +80,20 @@ fn decide(
     !stopped_from(m, w, s, takers, high, 64, g, t)
 }
 
-// One round: of those left, whoever has none of them above it is decided, against the members of `out` above it.
+// One round: of those left, whoever has none of them above it is decided, against the members of `out` above it. The weights, sorts and
+// takers have a row for each place of the words `low` and `high`.
 fn one_round(
     left: u64,
     out: u64,
     higher: &[u64; 64],
     m: &[u32; 128],
-    w: &[[u16; 64]; 128],
-    s: &[[u8; 64]; 128],
-    takers: &[u64; 128],
+    w: &[[u16; 64]],
+    s: &[[u8; 64]],
+    takers: &[u64],
     low: &[u64; 64],
     high: &[u64; 64],
 ) -> Split
+    requires { ⌜ ((t : ℕ) → t < 64 → Housed (length (now w)) (getD (now low) t 0) (getD (now high) t 0) × Housed (length (now s)) (getD (now low) t 0) (getD (now high) t 0) × Housed (length (now takers)) (getD (now low) t 0) (getD (now high) t 0)) ⌝ }
     ensures { λ x. ⌜ Round left out (now (higher .entry)) (now (m .entry)) (now (w .entry)) (now (s .entry)) (now (takers .entry)) (now (low .entry)) (now (high .entry)) x ⌝ }
 {
     let mut todo = left;
@@ -113,20 +118,22 @@ fn one_round(
 }
 
 // The fired set. Whoever has nobody above it fires at once, if firable; `lower` has those that somebody stands above, and they are decided in
-// at most 64 rounds, those of rank k by round k. Rows of rivals give the same set as rows of all that stand above.
+// at most 64 rounds, those of rank k by round k. Rows of rivals give the same set as rows of all that stand above. The weights, sorts and
+// takers have a row for each place of the words `low` and `high`.
 pub fn fired(
     able: u64,
     lower: u64,
     higher: &[u64; 64],
     m: &[u32; 128],
-    w: &[[u16; 64]; 128],
-    s: &[[u8; 64]; 128],
-    takers: &[u64; 128],
+    w: &[[u16; 64]],
+    s: &[[u8; 64]],
+    takers: &[u64],
     low: &[u64; 64],
     high: &[u64; 64],
 ) -> u64
     requires { ⌜ Ranks (now higher) ⌝ }
     requires { ⌜ ((t : ℕ) → t < 64 → bit lower t ≡ false → (u : ℕ) → u < 64 → bit (getD (now higher) t 0) u ≡ false) ⌝ }
+    requires { ⌜ ((t : ℕ) → t < 64 → Housed (length (now w)) (getD (now low) t 0) (getD (now high) t 0) × Housed (length (now s)) (getD (now low) t 0) (getD (now high) t 0) × Housed (length (now takers)) (getD (now low) t 0) (getD (now high) t 0)) ⌝ }
     ensures { λ r. ⌜ Fires able (now (higher .entry)) (now (m .entry)) (now (w .entry)) (now (s .entry)) (now (takers .entry)) (now (low .entry)) (now (high .entry)) r ⌝ }
 {
     let mut left = able & lower;
@@ -145,7 +152,7 @@ pub fn fired(
 }
 
 // Who takes from a place of the word. The word has 64 places, from the first on.
-fn takers_from(takers: &[u64; 128], word: u64, from: usize) -> u64
+fn takers_from(takers: &[u64], word: u64, from: usize) -> u64
     requires { ⌜ from ≤ 64 ⌝ }
     ensures { λ r. ⌜ ((u : ℕ) → bit r u ≡ some 64 (λ p. bit word p && bit (getD (now (takers .entry)) (from + p) 0) u)) ⌝ }
 {
@@ -153,14 +160,14 @@ fn takers_from(takers: &[u64; 128], word: u64, from: usize) -> u64
     let mut left = word;
     while left != 0 {
         let k = sets::lowest(left);
-        all = sets::union(all, takers[from + k]);
+        all = sets::union(all, table::line(takers, from + k));
         left = sets::rest(left);
     }
     all
 }
 
 // Of those above a transition, whose input arcs come from the places of the two words, who takes from such a place.
-fn rivals_of(above: u64, takers: &[u64; 128], low: u64, high: u64) -> u64
+fn rivals_of(above: u64, takers: &[u64], low: u64, high: u64) -> u64
     ensures { λ r. ⌜ ((u : ℕ) → bit r u ≡ (bit above u && takes-from (now (takers .entry)) low high u)) ⌝ }
 {
     if above == 0 {
@@ -173,7 +180,7 @@ fn rivals_of(above: u64, takers: &[u64; 128], low: u64, high: u64) -> u64
 // stands above a transition, and the rows are lent empty.
 pub fn rivals(
     higher: &[u64; 64],
-    takers: &[u64; 128],
+    takers: &[u64],
     low: &[u64; 64],
     high: &[u64; 64],
     rows: &mut [u64; 64],

@@ -1,16 +1,19 @@
 -- Writing an image: four stores are one record, the records stored so far are those of the state, and 192 of them are the image.
-use mathlib.Core.Bool.{Bool, true, false, cond}
+use mathlib.Core.Bool.{Bool, true, false, cond, not, _&&_, and-true}
 use mathlib.Core.List.{List, [], _∷_, _++_}
-use mathlib.Core.Path.{_≡_, sym, ap, _∙_, subst}
-use Prim.Native.Nat.{ℕ, zero, suc, _+_, _*_, _/_, _%_, _≤_, _<_}
+use mathlib.Core.Path.{_≡_, refl, sym, ap, _∙_, subst, fun-ext}
+use Prim.Native.Nat.{ℕ, zero, suc, _+_, _-_, _*_, _/_, _%_, _≤_, _<_}
 use native.Mathlib.Nat.{not-suc-le-zero, add-zero}
 use native.Mathlib.Omega.{arith}
 use lib.ListN.{length, getD, set, length-set}
 use lib.Seq.{ext-getD, getD-set-same, getD-set-other}
+use lib.Dec.{eqb, ltb}
 use borrow.Author.Count.{below-more}
-use Rattle.meaning.specs.Bytes.{bytes}
+use borrow.Author.Tests.{eq-eqb, eqb-true, eqb-false, ltb-true, ltb-false}
+use Rattle.meaning.specs.Bytes.{bit, bytes}
 use Rattle.meaning.specs.Image.{State, image-bytes}
 use Rattle.meaning.proofs.Image.{image-length, place-byte, transition-byte}
+use Rattle.sets.proofs.Bits.{bit-zero}
 use Rattle.image.specs.Stored.{Stored}
 
 -- The bytes with the four of record k stored.
@@ -61,7 +64,7 @@ module _ (bs : List ℕ) (k a b c d : ℕ) (long : length bs ≡ 768) (low : k <
             ∙ getD-set-other bs (4 * k) (4 * n + j) a 0 (λ e. apart (omega arith));
       }
 
--- The four bytes of a number, of one that fits two bytes, and of such a number with the mark of a reset order.
+-- The four bytes of a number, and of one that fits two bytes.
 pub four-of : (x : ℕ) → x % 256 ∷ x / 256 % 256 ∷ x / 65536 % 256 ∷ x / 16777216 % 256 ∷ [] ≡ bytes 4 x
 unfolding bytes
 four-of x =
@@ -72,16 +75,6 @@ four-of x =
 four-plain : (x : ℕ) → x ≤ 65535 → bytes 4 x ≡ bytes 2 x ++ 0 ∷ 0 ∷ []
 unfolding bytes
 four-plain x h = let third : x / 256 / 256 ≡ 0 = omega arith in rw third
-
-four-marked : (x : ℕ) (b : Bool) → x ≤ 65535 → bytes 4 (x + cond b 65536 0) ≡ bytes 2 x ++ cond b 1 0 ∷ 0 ∷ []
-unfolding bytes
-four-marked x true h =
-    let low : (x + 65536) % 256 ≡ x % 256 = omega arith in
-    let rest : (x + 65536) / 256 ≡ x / 256 + 256 = omega arith in
-    let high : (x / 256 + 256) % 256 ≡ x / 256 % 256 = omega arith in
-    let third : (x / 256 + 256) / 256 ≡ 1 = omega arith in
-    rw (low, rest, high, third)
-four-marked x false h = ap (bytes 4) (add-zero x) ∙ four-plain x h
 
 -- The first k records are those of the image wanted.
 pub record Upto (want : List ℕ) (k : ℕ) (bs : List ℕ) : Type 0 where
@@ -108,13 +101,15 @@ module _ (s : State) where
       upto-more (image-bytes s) bs next p (s .tokens p) u w
       (λ j l. place-byte s p j h l ∙ ap (λ (v : List ℕ). getD v j 0) (sym (four-plain (s .tokens p) small)))
 
-  pub upto-transition : (bs next : List ℕ) (t mark : ℕ) → t < 64 → s .counter t ≤ 65535 → mark ≡ cond (s .order t) 65536 0
-      → Upto (image-bytes s) (128 + t) bs → Stored bs (128 + t) (s .counter t + mark) next → Upto (image-bytes s) (128 + (t + 1)) next
-  upto-transition bs next t mark h small e u w =
+  pub upto-transition : (bs next : List ℕ) (t : ℕ) → t < 64 → s .counter t ≤ 65535 → ((k : ℕ) → s .order k ≡ false)
+      → Upto (image-bytes s) (128 + t) bs → Stored bs (128 + t) (s .counter t) next → Upto (image-bytes s) (128 + (t + 1)) next
+  upto-transition bs next t h small none u w =
       let on : 128 + t + 1 ≡ 128 + (t + 1) = omega arith in
       rw on at
-      (upto-more (image-bytes s) bs next (128 + t) (s .counter t + mark) u w
-      (λ j l. transition-byte s t j h l ∙ sym (rw e (ap (λ (v : List ℕ). getD v j 0) (four-marked (s .counter t) (s .order t) small)))))
+      (upto-more (image-bytes s) bs next (128 + t) (s .counter t) u w
+      (λ j l.
+      transition-byte s t j h l
+      ∙ rw (none t) (ap (λ (v : List ℕ). getD v j 0) (sym (four-plain (s .counter t) small)))))
 
   -- All 192 records are the image.
   pub upto-all : (bs : List ℕ) → Upto (image-bytes s) 192 bs → bs ≡ image-bytes s
@@ -123,3 +118,103 @@ module _ (s : State) where
       (λ i h.
       let whole : i ≡ 4 * (i / 4) + i % 4 = omega arith in
       subst (λ (x : ℕ). getD bs x 0 ≡ getD (image-bytes s) x 0) (sym whole) (u .right (i / 4) (omega (arith, u .long)) (i % 4) (omega arith)))
+
+-- THE RESET ORDERS
+
+-- The state without the reset orders of a set.
+abbrev pub but : State → ℕ → State
+but s left = record { tokens = s .tokens; counter = s .counter; order = λ t. s .order t && not (bit left t) }
+
+-- A state whose reset orders are f.
+abbrev ordering : State → (ℕ → Bool) → State
+ordering s f = record { tokens = s .tokens; counter = s .counter; order = f }
+
+-- With none left out it is the state itself, and with all of them it has none.
+pub but-none : (s : State) (left : ℕ) → left ≡ 0 → image-bytes (but s left) ≡ image-bytes s
+but-none s left e = rw e (ap (λ (f : ℕ → Bool). image-bytes (ordering s f)) (fun-ext (λ t. rw (bit-zero t) (and-true (s .order t)))))
+
+pub but-all : (s : State) (left : ℕ) → ((t : ℕ) → s .order t ≡ bit left t) → image-bytes (ordering s (bit 0)) ≡ image-bytes (but s left)
+but-all s left same = ap (λ (f : ℕ → Bool). image-bytes (ordering s f)) (fun-ext (λ t. bit-zero t ∙ sym (rw (same t) (never (bit left t)))))
+  where
+    never : (b : Bool) → (b && not b) ≡ false
+    never true = refl
+    never false = refl
+
+-- One that is left out is put in: only the third byte of its record changes.
+pub but-one : (s : State) (left rest t : ℕ) → t < 64 → s .order t ≡ true → bit left t ≡ true → ((j : ℕ) → bit rest j ≡ (bit left j && not (eqb t j)))
+    → set (image-bytes (but s left)) (4 * (128 + t) + 2) 1 ≡ image-bytes (but s rest)
+unfolding bytes
+but-one s left rest t low mine member takes =
+    ext-getD 0 (set (image-bytes (but s left)) here 1) (image-bytes (but s rest))
+    (length-set (image-bytes (but s left)) here 1 ∙ image-length (but s left) ∙ sym (image-length (but s rest)))
+    (λ i h.
+    let whole : i ≡ 4 * (i / 4) + i % 4 = omega arith in
+    let bound : i < 768 = omega (arith, h, length-set (image-bytes (but s left)) here 1, image-length (but s left)) in
+    subst (λ (x : ℕ). getD (set (image-bytes (but s left)) here 1) x 0 ≡ getD (image-bytes (but s rest)) x 0) (sym whole)
+    (at (i / 4) (i % 4) (omega (arith, bound)) (omega arith) (ltb (i / 4) 128) refl))
+  where
+    here : ℕ
+    here = 4 * (128 + t) + 2
+
+    -- Away from that byte nothing is written.
+    away : (k : ℕ) → ¬ (k ≡ here) → getD (set (image-bytes (but s left)) here 1) k 0 ≡ getD (image-bytes (but s left)) k 0
+    away k n = getD-set-other (image-bytes (but s left)) here k 1 0 n
+
+    -- The order of another stays.
+    other : (u : ℕ) → eqb t u ≡ false → (s .order u && not (bit left u)) ≡ (s .order u && not (bit rest u))
+    other u e =
+        let same : bit left u ≡ bit rest u = sym (takes u ∙ rw e (and-true (bit left u))) in
+        ap (λ (b : Bool). s .order u && not b) same
+
+    -- Of a transition's record only the third byte hangs on its order.
+    unordered : (c j : ℕ) (b d : Bool) → j < 4 → ¬ (j ≡ 2) → getD (bytes 2 c ++ cond b 1 0 ∷ 0 ∷ []) j 0 ≡ getD (bytes 2 c ++ cond d 1 0 ∷ 0 ∷ []) j 0
+    unordered c zero b d h n = refl
+    unordered c (suc zero) b d h n = refl
+    unordered c (suc (suc zero)) b d h n = absurd (n refl)
+    unordered c (suc (suc (suc zero))) b d h n = refl
+    unordered c (suc (suc (suc (suc j)))) b d h n = absurd (omega arith)
+
+    third : (c : ℕ) (b : Bool) → b ≡ true → getD (bytes 2 c ++ cond b 1 0 ∷ 0 ∷ []) 2 0 ≡ 1
+    third c b e = rw e
+
+    now-ordered : (s .order t && not (bit rest t)) ≡ true
+    now-ordered = rw (mine, takes t, member, eq-eqb t t refl)
+
+    of-transition : (u j : ℕ) → u < 64 → j < 4 → (b : Bool) → eqb t u ≡ b
+        → getD (set (image-bytes (but s left)) here 1) (4 * (128 + u) + j) 0 ≡ getD (image-bytes (but s rest)) (4 * (128 + u) + j) 0
+    of-transition u j l h true e = go (eqb j 2) refl
+      where
+        same : t ≡ u
+        same = eqb-true t u e
+
+        go : (b : Bool) → eqb j 2 ≡ b → getD (set (image-bytes (but s left)) here 1) (4 * (128 + u) + j) 0 ≡ getD (image-bytes (but s rest)) (4 * (128 + u) + j) 0
+        go true q =
+            let spot : 4 * (128 + u) + j ≡ here = omega (arith, eqb-true j 2 q, same) in
+            ap (λ (k : ℕ). getD (set (image-bytes (but s left)) here 1) k 0) spot
+            ∙ getD-set-same (image-bytes (but s left)) here 1 0 (omega (arith, low, image-length (but s left)))
+            ∙ sym (third (s .counter t) _ now-ordered)
+            ∙ sym (transition-byte (but s rest) t 2 low (omega arith))
+            ∙ ap (λ (k : ℕ). getD (image-bytes (but s rest)) k 0) (sym spot)
+        go false q =
+            let apart : ¬ (j ≡ 2) = eqb-false j 2 q in
+            away (4 * (128 + u) + j) (λ z. apart (omega (arith, z, same)))
+            ∙ transition-byte (but s left) u j l h
+            ∙ unordered (s .counter u) j (s .order u && not (bit left u)) (s .order u && not (bit rest u)) h apart
+            ∙ sym (transition-byte (but s rest) u j l h)
+    of-transition u j l h false e =
+        let apart : ¬ (t ≡ u) = eqb-false t u e in
+        away (4 * (128 + u) + j) (λ z. apart (omega (arith, z)))
+        ∙ transition-byte (but s left) u j l h
+        ∙ ap (λ (b : Bool). getD (bytes 2 (s .counter u) ++ cond b 1 0 ∷ 0 ∷ []) j 0) (other u e)
+        ∙ sym (transition-byte (but s rest) u j l h)
+
+    at : (n j : ℕ) → n < 192 → j < 4 → (b : Bool) → ltb n 128 ≡ b
+        → getD (set (image-bytes (but s left)) here 1) (4 * n + j) 0 ≡ getD (image-bytes (but s rest)) (4 * n + j) 0
+    at n j l h true e =
+        let place : n < 128 = ltb-true n 128 e in
+        away (4 * n + j) (λ z. omega (arith, z, place)) ∙ place-byte (but s left) n j place h ∙ sym (place-byte (but s rest) n j place h)
+    at n j l h false e =
+        let past : 128 ≤ n = ltb-false n 128 e in
+        let split : n ≡ 128 + (n - 128) = omega (arith, past) in
+        subst (λ (k : ℕ). getD (set (image-bytes (but s left)) here 1) (4 * k + j) 0 ≡ getD (image-bytes (but s rest)) (4 * k + j) 0) (sym split)
+        (of-transition (n - 128) j (omega (arith, l, past)) h (eqb t (n - 128)) refl)

@@ -3,17 +3,18 @@ use super::fourth;
 use super::number;
 use super::quiet;
 use super::third;
-ghost use mathlib.Core.Bool.{not, _&&_, _||_};
+ghost use mathlib.Core.Bool.{false, not, _&&_, _||_};
 ghost use mathlib.Core.Path.{_≡_};
-ghost use Prim.Native.Nat.{_+_, _≤_};
+ghost use Prim.Native.Nat.{ℕ, _≤_, _<_};
 ghost use lib.Dec.{ltb, eqb};
 ghost use Rattle.meaning.specs.Below.{first};
-ghost use Rattle.meaning.specs.Bytes.{bit};
+ghost use Rattle.table.specs.Index.{has-place};
 ghost use Rattle.image.specs.Fit.{most-by, order-by, wrong-place-by, wrong-transition-by, wrong-by};
 
-// A place's record by its number and last two bytes, and the place's row of the index: is it wrong?
-fn wrong_place(tokens: u32, third: u8, fourth: u8, line: u64) -> bool
-    ensures { λ r. ⌜ r ≡ (not (eqb third 0) || not (eqb fourth 0) || (not (eqb tokens 0) && not (bit line 0))) ⌝ }
+// Place p's record by its number and last two bytes, and whether the index has the place: is it wrong?
+fn wrong_place(tokens: u32, third: u8, fourth: u8, rows: &[u64], p: usize) -> bool
+    requires { ⌜ p < 128 ⌝ }
+    ensures { λ r. ⌜ r ≡ (not (eqb third 0) || not (eqb fourth 0) || (not (eqb tokens 0) && not (has-place (now (rows .entry)) p))) ⌝ }
 {
     if third != 0 {
         return true;
@@ -24,6 +25,7 @@ fn wrong_place(tokens: u32, third: u8, fourth: u8, line: u64) -> bool
     if tokens == 0 {
         return false;
     }
+    let line = table::line(rows, 8 * p);
     !sets::has(line, 0)
 }
 
@@ -59,90 +61,101 @@ fn wrong_transition(counter: u32, third: u8, fourth: u8, sort: u8, a: u16, b: u1
     most(sort, a, b) < counter
 }
 
-// Of the sixteen places from p on the first whose record is wrong, counted from p, or 16.
-fn place_on(image: &[u8], rows: &[u64; 768], p: usize) -> usize
-    requires { ⌜ p + 16 ≤ 128 ⌝ }
-    ensures { λ r. ⌜ r ≡ first 16 (λ k. wrong-place-by (now (image .entry)) (now (rows .entry)) (p + k)) ⌝ }
+// The first place below `to` whose record is wrong, or `to`, where none before `from` is wrong.
+fn place_from(image: &[u8], rows: &[u64], from: usize, to: usize) -> usize
+    requires { ⌜ (from ≤ to) × (to ≤ 128) × ((p : ℕ) → p < from → wrong-place-by (now image) (now rows) p ≡ false) ⌝ }
+    ensures { λ r. ⌜ r ≡ first to (wrong-place-by (now (image .entry)) (now (rows .entry))) ⌝ }
 {
-    let mut i = 0;
-    while i < 16 {
-        let k = p + i;
+    let mut k = from;
+    while k < to {
         let tokens = number(image, k);
-        if wrong_place(tokens, third(image, k), fourth(image, k), rows[k]) {
-            return i;
+        if wrong_place(tokens, third(image, k), fourth(image, k), rows, k) {
+            return k;
         }
-        i += 1;
+        k += 1;
     }
-    16
+    to
 }
 
-// The first place whose record is wrong, or 128. Sixteen whose bytes are all 0 are passed over at once.
-fn first_place(image: &[u8], rows: &[u64; 768]) -> usize
+// The first place whose record is wrong, or 128. The first n are looked at one by one; the others at once, where all their bytes are 0.
+fn first_place(image: &[u8], rows: &[u64], n: usize) -> usize
+    requires { ⌜ n ≤ 128 ⌝ }
     ensures { λ r. ⌜ r ≡ first 128 (wrong-place-by (now (image .entry)) (now (rows .entry))) ⌝ }
 {
-    let mut p = 0;
-    while p < 128 {
-        let from = 4 * p;
-        if !quiet(image, from, from + 64) {
-            let i = place_on(image, rows, p);
-            if i < 16 {
-                return p + i;
-            }
-        }
-        p += 16;
+    let early = place_from(image, rows, 0, n);
+    if early < n {
+        return early;
     }
-    128
+    if quiet(image, 4 * n, 512) {
+        return 128;
+    }
+    place_from(image, rows, n, 128)
 }
 
-// Of the sixteen transitions from t on the first whose record is wrong, counted from t, or 16.
-fn transition_on(image: &[u8], x: timing::Intervals, t: usize) -> usize
-    requires { ⌜ t + 16 ≤ 64 ⌝ }
-    ensures { λ r. ⌜ r ≡ first 16 (λ k. wrong-transition-by (now (image .entry)) x (t + k)) ⌝ }
+// The first transition below `to` whose record is wrong, or `to`, where none before `from` is wrong.
+fn transition_from(
+    image: &[u8],
+    sorts: &[u8; 64],
+    a: &[u16; 64],
+    b: &[u16; 64],
+    from: usize,
+    to: usize,
+) -> usize
+    requires { ⌜ (from ≤ to) × (to ≤ 64) × ((k : ℕ) → k < from → wrong-transition-by (now image) (record { sorts = now sorts; a = now a; b = now b }) k ≡ false) ⌝ }
+    ensures { λ r. ⌜ r ≡ first to (wrong-transition-by (now (image .entry)) (record { sorts = now (sorts .entry); a = now (a .entry); b = now (b .entry) })) ⌝ }
 {
-    let mut i = 0;
-    while i < 16 {
-        let k = t + i;
-        let record = 128 + k;
+    let mut t = from;
+    while t < to {
+        let record = 128 + t;
         if wrong_transition(
             number(image, record),
             third(image, record),
             fourth(image, record),
-            x.sorts[k],
-            x.a[k],
-            x.b[k],
+            sorts[t],
+            a[t],
+            b[t],
         ) {
-            return i;
+            return t;
         }
-        i += 1;
+        t += 1;
     }
-    16
+    to
 }
 
-// The first transition whose record is wrong, or 64, in the same way.
-fn first_transition(image: &[u8], x: timing::Intervals) -> usize
-    ensures { λ r. ⌜ r ≡ first 64 (wrong-transition-by (now (image .entry)) x) ⌝ }
+// The first transition whose record is wrong, or 64. Where all their bytes are 0, as in a fresh net, none is; else the first n are looked at one by one, and
+// the others at once, where all their bytes are 0.
+fn first_transition(image: &[u8], sorts: &[u8; 64], a: &[u16; 64], b: &[u16; 64], n: usize) -> usize
+    requires { ⌜ n ≤ 64 ⌝ }
+    ensures { λ r. ⌜ r ≡ first 64 (wrong-transition-by (now (image .entry)) (record { sorts = now (sorts .entry); a = now (a .entry); b = now (b .entry) })) ⌝ }
 {
-    let mut t = 0;
-    while t < 64 {
-        let from = 4 * (128 + t);
-        if !quiet(image, from, from + 64) {
-            let i = transition_on(image, x, t);
-            if i < 16 {
-                return t + i;
-            }
-        }
-        t += 16;
+    if quiet(image, 512, 768) {
+        return 64;
     }
-    64
+    let early = transition_from(image, sorts, a, b, 0, n);
+    if early < n {
+        return early;
+    }
+    if quiet(image, 512 + 4 * n, 768) {
+        return 64;
+    }
+    transition_from(image, sorts, a, b, n, 64)
 }
 
-// The first record of the image that does not fit, or 192.
-pub fn first_wrong(image: &[u8], rows: &[u64; 768], x: timing::Intervals) -> usize
-    ensures { λ r. ⌜ r ≡ first 192 (wrong-by (now (image .entry)) (now (rows .entry)) x) ⌝ }
+// The first record of the image that does not fit, or 192. Of the places the first n are looked at one by one, of the transitions as many.
+pub fn first_wrong(
+    image: &[u8],
+    rows: &[u64],
+    n: usize,
+    sorts: &[u8; 64],
+    a: &[u16; 64],
+    b: &[u16; 64],
+) -> usize
+    requires { ⌜ n ≤ 128 ⌝ }
+    ensures { λ r. ⌜ r ≡ first 192 (wrong-by (now (image .entry)) (now (rows .entry)) (record { sorts = now (sorts .entry); a = now (a .entry); b = now (b .entry) })) ⌝ }
 {
-    let p = first_place(image, rows);
+    let p = first_place(image, rows, n);
     if p < 128 {
         return p;
     }
-    128 + first_transition(image, x)
+    128 + first_transition(image, sorts, a, b, table::transitions(n))
 }

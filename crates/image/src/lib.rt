@@ -1,8 +1,8 @@
 // A state image: read into arrays and written from them.
-ghost use mathlib.Core.Bool.{true, cond};
+ghost use mathlib.Core.Bool.{true};
 ghost use mathlib.Core.Path.{_≡_};
 ghost use Prim.Native.Nat.{ℕ, _+_, _*_, _≤_, _<_};
-ghost use lib.ListN.{length, getD};
+ghost use lib.ListN.{length, getD, set};
 ghost use Rattle.meaning.specs.Bytes.{bit};
 ghost use Rattle.meaning.specs.Image.{image, state, image-bytes};
 ghost use Rattle.image.specs.Records.{Quiet, Marked};
@@ -180,19 +180,20 @@ fn store(bytes: &mut [u8], k: usize, x: u32)
     bytes[at + 3] = (x / 16777216 % 256) as u8;
 }
 
-// What a reset order adds to a transition's record: a third byte of 1, else nothing.
-fn mark(orders: u64, t: usize) -> u32
-    ensures { λ r. ⌜ r ≡ cond (bit orders t) 65536 0 ⌝ }
-    ensures { λ r. ⌜ r ≤ 65536 ⌝ }
+// A reset order of transition t: the third byte of its record becomes 1.
+fn order(bytes: &mut [u8], t: usize)
+    requires { ⌜ (length (now bytes) ≡ 768) × (t < 64) ⌝ }
+    ensures { λ _. ⌜ now (bytes .exit) ≡ set (now (bytes .entry)) (4 * (128 + t) + 2) 1 ⌝ }
 {
-    if sets::has(orders, t) { 65536 } else { 0 }
+    let at = 4 * (128 + t) + 2;
+    bytes[at] = 1;
 }
 
-// The image of a state: all four bytes of each record.
-pub fn save(bytes: &mut [u8], tokens: &[u32; 128], counters: &[u32; 64], orders: u64)
+// The image of a state without reset orders: all four bytes of each record.
+fn plain(bytes: &mut [u8], tokens: &[u32; 128], counters: &[u32; 64])
     requires { ⌜ length (now bytes) ≡ 768 ⌝ }
-    requires { ⌜ Small (record { tokens = now tokens; counters = now counters; orders = orders }) ⌝ }
-    ensures { λ _. ⌜ now (bytes .exit) ≡ image-bytes (held (record { tokens = now (tokens .entry); counters = now (counters .entry); orders = orders })) ⌝ }
+    requires { ⌜ Small (record { tokens = now tokens; counters = now counters; orders = 0 }) ⌝ }
+    ensures { λ _. ⌜ now (bytes .exit) ≡ image-bytes (held (record { tokens = now (tokens .entry); counters = now (counters .entry); orders = 0 })) ⌝ }
 {
     let mut p = 0;
     while p < 128 {
@@ -201,7 +202,21 @@ pub fn save(bytes: &mut [u8], tokens: &[u32; 128], counters: &[u32; 64], orders:
     }
     let mut t = 0;
     while t < 64 {
-        store(bytes, 128 + t, counters[t] + mark(orders, t));
+        store(bytes, 128 + t, counters[t]);
         t += 1;
+    }
+}
+
+// The image of a state. The reset orders are put in at the end, one by one, as there are few.
+pub fn save(bytes: &mut [u8], tokens: &[u32; 128], counters: &[u32; 64], orders: u64)
+    requires { ⌜ length (now bytes) ≡ 768 ⌝ }
+    requires { ⌜ Small (record { tokens = now tokens; counters = now counters; orders = orders }) ⌝ }
+    ensures { λ _. ⌜ now (bytes .exit) ≡ image-bytes (held (record { tokens = now (tokens .entry); counters = now (counters .entry); orders = orders })) ⌝ }
+{
+    plain(bytes, tokens, counters);
+    let mut left = orders;
+    while left != 0 {
+        order(bytes, sets::lowest(left));
+        left = sets::rest(left);
     }
 }

@@ -133,7 +133,7 @@ module _ (tb : Table) (arcs : (r : ℕ) → r < tb .records → tb .kind r ≡ 3
       (eqb-true _ _ (x .2) ∙ sym (eqb-true _ _ (y .2))) k)
 
 -- What a tally adds up is what the meaning says: over basic arcs what the set withdraws, over post arcs what it puts.
-module _ (tb : Table) (chosen : ℕ) (held curbs index taken put : List ℕ) (x : Moved) (y : Tallied tb chosen held curbs index taken put x) where
+module _ (tb : Table) (chosen : ℕ) (lacks index taken put : List ℕ) (x : Moved) (y : Tallied tb chosen lacks index taken put x) where
   pub taken-is : (p : ℕ) → p < 128 → getD taken p 0 ≡ withdrawn tb (bit chosen) p
   unfolding withdrawn
   taken-is = y .taken-is

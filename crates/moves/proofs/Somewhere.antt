@@ -6,25 +6,26 @@ use mathlib.Core.Logic.{⊎-elim}
 use mathlib.Core.Path.{_≡_, refl, sym, ap, _∙_}
 use Prim.Native.Nat.{ℕ, _<_}
 use lib.Dec.{eqb}
+use lib.ListN.{getD}
 use borrow.Author.Tests.{eqb-true, eq-eqb}
 use Rattle.meaning.specs.Below.{some}
+use Rattle.meaning.specs.Bytes.{bit}
 use Rattle.meaning.specs.Table.{Table, arc}
 use Rattle.meaning.proofs.Bool.{and-left, and-right, and-true, or-true-left, or-true-right, or-cases, same-test}
 use Rattle.meaning.proofs.Below.{some-intro, some-elim, some-same, none-intro}
-use Rattle.moves.specs.Tallied.{lacking}
 use Rattle.moves.proofs.Sums.{on, any, same-on, any-idle}
 
 -- An arc of this sort that passes f is at a place that passes g.
 abbrev pub somewhere : Table → ℕ → (ℕ → Bool) → (ℕ → Bool) → Bool
 somewhere tb sort f g = some 128 (λ p. any tb sort f p && g p)
 
--- Place p holds back transition j, which has no inhibitor arc from it: a test of places.
-abbrev pub lacked : List ℕ → List ℕ → ℕ → ℕ → Bool
-lacked held curbs j p = lacking held curbs p j
+-- Transition j lacks tokens at place p: a test of places.
+abbrev pub lacked : List ℕ → ℕ → ℕ → Bool
+lacked rows j p = bit (getD rows p 0) j
 
 -- Such a place has an arc of this sort that passes f.
-abbrev pub lacks : Table → ℕ → List ℕ → List ℕ → (ℕ → Bool) → ℕ → Bool
-lacks tb sort held curbs f j = somewhere tb sort f (lacked held curbs j)
+abbrev pub lacks-at : Table → ℕ → List ℕ → (ℕ → Bool) → ℕ → Bool
+lacks-at tb sort rows f j = somewhere tb sort f (lacked rows j)
 
 module _ (tb : Table) (sort : ℕ) (g : ℕ → Bool) where
   -- Record k is an arc of this sort at a place that passes g.

@@ -1,8 +1,8 @@
 -- What the arcs of a set's members move, record by record.
-use mathlib.Core.Bool.{Bool, not, _&&_}
+use mathlib.Core.Bool.{Bool, _&&_}
 use mathlib.Core.List.{List}
 use mathlib.Core.Path.{_≡_}
-use Prim.Native.Nat.{ℕ, _+_, _<_}
+use Prim.Native.Nat.{ℕ, _+_, _*_, _<_}
 use lib.Dec.{eqb}
 use lib.ListN.{length, getD, set}
 use Rattle.meaning.specs.Below.{some}
@@ -47,15 +47,11 @@ pub record Unmoved (moved : List ℕ) : Type 0 where
   pub size : length moved ≡ 128
   pub none : (p : ℕ) → p < 128 → getD moved p 0 ≡ 0
 
--- Place p holds back transition j, which has no inhibitor arc from it.
-abbrev pub lacking : List ℕ → List ℕ → ℕ → ℕ → Bool
-lacking held curbs p j = bit (getD held p 0) j && not (bit (getD curbs p 0) j)
-
--- What the members of `chosen` take and put at each place; their functions, which row 704 + t of the index has for transition t; and whom the places
--- from which they take hold back without an inhibitor arc.
-pub record Tallied (tb : Table) (chosen : ℕ) (held curbs index taken put : List ℕ) (x : Moved) : Type 0 where
+-- What the members of `chosen` take and put at each place; their functions, which row 8 * t + 7 of the index has for transition t; and who lacks tokens
+-- at the places from which they take, by the row of each place.
+pub record Tallied (tb : Table) (chosen : ℕ) (lacks index taken put : List ℕ) (x : Moved) : Type 0 where
   pub sizes : (length taken ≡ 128) × (length put ≡ 128)
   pub taken-is : (p : ℕ) → p < 128 → getD taken p 0 ≡ moved-by tb 0 (bit chosen) p
   pub put-is : (p : ℕ) → p < 128 → getD put p 0 ≡ moved-by tb 3 (bit chosen) p
-  pub functions-are : (k : ℕ) → bit (x .functions) k ≡ some 64 (λ t. bit chosen t && bit (getD index (704 + t) 0) k)
-  pub lack-is : (j : ℕ) → bit (x .lack) j ≡ some 128 (λ p. moved-at-all tb 0 (bit chosen) p && lacking held curbs p j)
+  pub functions-are : (k : ℕ) → bit (x .functions) k ≡ some 64 (λ t. bit chosen t && bit (getD index (8 * t + 7) 0) k)
+  pub lack-is : (j : ℕ) → bit (x .lack) j ≡ some 128 (λ p. moved-at-all tb 0 (bit chosen) p && bit (getD lacks p 0) j)

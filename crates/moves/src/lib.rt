@@ -1,16 +1,16 @@
 // What a set of transitions moves: the tokens at a place, by the place's row; and the tokens at every place, by the transitions' chains of arcs.
-ghost use mathlib.Core.Bool.{cond, _&&_, _||_};
+ghost use mathlib.Core.Bool.{true, cond, _&&_, _||_};
 ghost use mathlib.Core.Path.{_≡_};
-ghost use Prim.Native.Nat.{ℕ, _≤_, _<_};
+ghost use Prim.Native.Nat.{ℕ, _+_, _*_, _≤_, _<_};
 ghost use lib.Dec.{eqb};
-ghost use lib.ListN.{getD};
+ghost use lib.ListN.{length, getD};
 ghost use Rattle.meaning.specs.Answer.{accepted};
 ghost use Rattle.meaning.specs.Below.{some, sum};
 ghost use Rattle.meaning.specs.Bytes.{bit};
 ghost use Rattle.meaning.specs.Defined.{check};
 ghost use Rattle.meaning.specs.Table.{table};
 ghost use Rattle.net.specs.Links.{Chained};
-ghost use Rattle.moves.specs.Tallied.{moved-at-all, lacking, Room, carried, Fits, Followed, Unmoved, Tallied};
+ghost use Rattle.moves.specs.Tallied.{moved-at-all, Room, carried, Fits, Followed, Unmoved, Tallied};
 
 // A weight as a number of tokens.
 fn wide(x: u16) -> u32
@@ -75,23 +75,22 @@ fn add_arc(t: &[u8], moved: &mut [u32; 128], r: usize)
 }
 
 // Adds at each place what transition u moves there over its arcs of one sort: `sort` chooses the row of `heads` in which their chain begins, and
-// `next` goes on from arc to arc. The answer is all, and whom these places hold back without an inhibitor arc.
+// `next` goes on from arc to arc. The answer is all, and who lacks tokens at these places.
 fn follow(
     t: &[u8],
     moved: &mut [u32; 128],
-    held: &[u64; 128],
-    curbs: &[u64; 128],
+    lacks: &[u64; 128],
     heads: &[u16; 256],
-    next: &[u16; 1024],
+    next: &[u16],
     u: usize,
     sort: u8,
     all: u64,
 ) -> u64
     requires { ⌜ check (now t) ≡ accepted 0 ⌝ }
-    requires { ⌜ Chained (table (now t)) (now heads) (now next) ⌝ }
+    requires { ⌜ Chained (table (now t)) (now heads) (now next) × (table (now t) .records ≤ length (now next)) ⌝ }
     requires { ⌜ (u < 64) × (sort < 4) × Fits (table (now t)) sort u (now moved) ⌝ }
     ensures { λ _. ⌜ Followed (table (now (t .entry))) sort u (now (moved .entry)) (now (moved .exit)) ⌝ }
-    ensures { λ r. ⌜ ((j : ℕ) → bit r j ≡ (bit all j || some 128 (λ p. moved-at-all (table (now (t .entry))) sort (eqb u) p && lacking (now (held .entry)) (now (curbs .entry)) p j))) ⌝ }
+    ensures { λ r. ⌜ ((j : ℕ) → bit r j ≡ (bit all j || some 128 (λ p. moved-at-all (table (now (t .entry))) sort (eqb u) p && bit (getD (now (lacks .entry)) p 0) j))) ⌝ }
 {
     let mut lack = all;
     let mut link = count(heads[64 * records::wide(sort) + u]);
@@ -99,35 +98,35 @@ fn follow(
         let r = link - 1;
         let p = place(t, r);
         add_arc(t, moved, r);
-        lack = sets::union(lack, sets::less(held[p], curbs[p]));
+        lack = sets::union(lack, lacks[p]);
         link = count(next[r]);
     }
     lack
 }
 
-// The functions of a set of transitions, and whom the places from which its members take held back without an inhibitor arc.
+// The functions of a set of transitions, and who lacked tokens at the places from which its members take.
 pub struct Moved {
     pub functions: u64,
     pub lack: u64,
 }
 
 // Adds up at each place what the members of `set` take there and what they put, over the arcs that `heads` and `next` chain; `taken` and `put`
-// are lent empty. Row 704 + t of the index has the functions of transition t.
+// are lent empty. Row 8 * t + 7 of the index has the functions of transition t, and there is one for each member.
 pub fn tally(
     t: &[u8],
     taken: &mut [u32; 128],
     put: &mut [u32; 128],
     set: u64,
-    held: &[u64; 128],
-    curbs: &[u64; 128],
+    lacks: &[u64; 128],
     heads: &[u16; 256],
-    next: &[u16; 1024],
-    index: &[u64; 768],
+    next: &[u16],
+    index: &[u64],
 ) -> Moved
     requires { ⌜ check (now t) ≡ accepted 0 ⌝ }
-    requires { ⌜ Chained (table (now t)) (now heads) (now next) ⌝ }
+    requires { ⌜ Chained (table (now t)) (now heads) (now next) × (table (now t) .records ≤ length (now next)) ⌝ }
     requires { ⌜ Unmoved (now taken) × Unmoved (now put) ⌝ }
-    ensures { λ x. ⌜ Tallied (table (now (t .entry))) set (now (held .entry)) (now (curbs .entry)) (now (index .entry)) (now (taken .exit)) (now (put .exit)) x ⌝ }
+    requires { ⌜ ((u : ℕ) → bit set u ≡ true → 8 * u + 7 < length (now index)) ⌝ }
+    ensures { λ x. ⌜ Tallied (table (now (t .entry))) set (now (lacks .entry)) (now (index .entry)) (now (taken .exit)) (now (put .exit)) x ⌝ }
 {
     let mut functions = 0u64;
     let mut lack = 0u64;
@@ -135,9 +134,9 @@ pub fn tally(
     while left != 0 {
         let u = sets::lowest(left);
         left = sets::rest(left);
-        functions = sets::union(functions, index[704 + u]);
-        lack = follow(t, taken, held, curbs, heads, next, u, 0, lack);
-        follow(t, put, held, curbs, heads, next, u, 3, 0);
+        functions = sets::union(functions, index[8 * u + 7]);
+        lack = follow(t, taken, lacks, heads, next, u, 0, lack);
+        follow(t, put, lacks, heads, next, u, 3, 0);
     }
     Moved { functions, lack }
 }

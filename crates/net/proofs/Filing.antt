@@ -6,7 +6,7 @@ use Prim.Native.Nat.{ℕ, _+_, _*_, _<_}
 use native.Mathlib.Nat.{add-zero}
 use native.Mathlib.Omega.{arith}
 use lib.Dec.{eqb, ltb}
-use lib.ListN.{getD, set}
+use lib.ListN.{length, getD, set}
 use borrow.Author.Tests.{eqb-true, eq-eqb, ne-eqb, lt-ltb}
 use Rattle.meaning.specs.Bytes.{bit}
 use Rattle.meaning.specs.Table.{Table, is}
@@ -16,17 +16,17 @@ use Rattle.net.specs.Pass.{Blank, kept, Arcs, Others}
 use Rattle.net.specs.Rows.{Gathered}
 use Rattle.net.specs.Links.{Linked}
 use Rattle.net.proofs.Links.{linked-none, linked-same, linked-more}
-use Rattle.net.proofs.Step.{grown-none, grown-same, grown-more, told-none, told-same, told-more}
+use Rattle.net.proofs.Step.{grown-blank, grown-same, grown-more, told-none, told-same, told-more}
 
 -- Before the first record.
 pub arcs-none : (tb : Table) {takers truths sorts a b heads next : List ℕ} → Blank takers truths sorts a b heads next → Arcs tb 0 takers heads next
 arcs-none tb blank =
-    record { taking = rw (blank .no-takers) (grown-none 128 (names tb 3 0)); chains = rw (blank .no-heads) (linked-none tb _ (blank .many-links)) }
+    record { taking = grown-blank 128 (names tb 3 0) _ (blank .no-takers); chains = rw (blank .no-heads) (linked-none tb _) }
 
 pub others-none : (tb : Table) {takers truths sorts a b heads next : List ℕ} → Blank takers truths sorts a b heads next → Others tb 0 truths sorts a b
 others-none tb blank =
     record {
-      wanting = rw (blank .no-truths) (grown-none 128 (names tb 4 0));
+      wanting = grown-blank 128 (names tb 4 0) _ (blank .no-truths);
       timed = rw (blank .no-sorts) (told-none tb (tb .sort));
       lower = rw (blank .no-a) (told-none tb (tb .four));
       upper = rw (blank .no-b) (told-none tb (tb .six));
@@ -48,11 +48,12 @@ module _ (tb : Table) (r : ℕ) where
       grown-same 128 (names tb kind sort) r rows g (is tb kind r && eqb (tb .sort r) sort) (tb .one r) (λ j. eqb (tb .two r) j) (λ x y. refl) (rw e)
 
   -- Those that are.
-  pub own : (kind sort : ℕ) {rows : List ℕ} → Grown 128 r (names tb kind sort) rows → tb .kind r ≡ kind → tb .sort r ≡ sort → tb .one r < 128 → (line : ℕ)
+  pub own : (kind sort : ℕ) {rows : List ℕ} → Grown 128 r (names tb kind sort) rows → tb .kind r ≡ kind → tb .sort r ≡ sort → tb .one r < 128
+      → tb .one r < length rows → (line : ℕ)
       → ((j : ℕ) → bit line j ≡ (bit (getD rows (tb .one r) 0) j || eqb (tb .two r) j)) → Grown 128 (r + 1) (names tb kind sort) (set rows (tb .one r) line)
-  own kind sort {rows} g k s low line gains =
+  own kind sort {rows} g k s low there line gains =
       grown-more 128 (names tb kind sort) r rows g (is tb kind r && eqb (tb .sort r) sort) (tb .one r) (λ j. eqb (tb .two r) j) (λ x y. refl)
-      (and-true (and-true (eq-eqb _ _ k) (eq-eqb _ _ s)) (lt-ltb _ _ low)) line (λ j h. gains j)
+      (and-true (and-true (eq-eqb _ _ k) (eq-eqb _ _ s)) (lt-ltb _ _ low)) there line (λ j h. gains j)
 
   pub no-kind : (kind sort : ℕ) → ¬ (tb .kind r ≡ kind) → (is tb kind r && eqb (tb .sort r) sort) ≡ false
   no-kind kind sort n = rw (ne-eqb (tb .kind r) kind n)
@@ -65,13 +66,14 @@ module _ (tb : Table) (r : ℕ) where
     pub arcs-same : ¬ (tb .kind r ≡ 3) → Arcs tb (r + 1) takers heads next
     arcs-same n = record { taking = others 3 0 (g .taking) (no-kind 3 0 n); chains = linked-same tb r heads next (g .chains) n }
 
-    module _ (kind : tb .kind r ≡ 3) (sort : tb .sort r < 4) (two : tb .two r < 64) (inside : r < 1024) (k : ℕ) (k-is : k ≡ 64 * tb .sort r + tb .two r) where
+    module _ (kind : tb .kind r ≡ 3) (sort : tb .sort r < 4) (two : tb .two r < 64) (inside : r < length next) (k : ℕ) (k-is : k ≡ 64 * tb .sort r + tb .two r) where
       linked : Linked tb (r + 1) (set heads k (r + 1)) (set next r (getD heads k 0))
       linked = linked-more tb r heads next (g .chains) kind sort two inside k k-is
 
-      pub files-taker : tb .sort r ≡ 0 → tb .one r < 128 → (line : ℕ) → ((j : ℕ) → bit line j ≡ (bit (getD takers (tb .one r) 0) j || eqb (tb .two r) j))
+      pub files-taker : tb .sort r ≡ 0 → tb .one r < 128 → tb .one r < length takers → (line : ℕ)
+          → ((j : ℕ) → bit line j ≡ (bit (getD takers (tb .one r) 0) j || eqb (tb .two r) j))
           → Arcs tb (r + 1) (set takers (tb .one r) line) (set heads k (r + 1)) (set next r (getD heads k 0))
-      files-taker s low line gains = record { taking = own 3 0 (g .taking) kind s low line gains; chains = linked }
+      files-taker s low there line gains = record { taking = own 3 0 (g .taking) kind s low there line gains; chains = linked }
 
       pub files-arc : ¬ (tb .sort r ≡ 0) → Arcs tb (r + 1) takers (set heads k (r + 1)) (set next r (getD heads k 0))
       files-arc n = record { taking = others 3 0 (g .taking) (no-sort 3 0 n); chains = linked }
@@ -82,11 +84,11 @@ module _ (tb : Table) (r : ℕ) where
     untold {f} {xs} t n = told-same tb f r xs t (rw (ne-eqb (tb .kind r) 2 n))
 
     -- The record is a condition wanted true; it declares a transition; it is none of these.
-    pub files-truth : tb .kind r ≡ 4 → tb .sort r ≡ 0 → tb .one r < 128 → (line : ℕ)
+    pub files-truth : tb .kind r ≡ 4 → tb .sort r ≡ 0 → tb .one r < 128 → tb .one r < length truths → (line : ℕ)
         → ((j : ℕ) → bit line j ≡ (bit (getD truths (tb .one r) 0) j || eqb (tb .two r) j)) → Others tb (r + 1) (set truths (tb .one r) line) sorts a b
-    files-truth k s low line gains =
+    files-truth k s low there line gains =
         record {
-          wanting = own 4 0 (g .wanting) k s low line gains;
+          wanting = own 4 0 (g .wanting) k s low there line gains;
           timed = untold (g .timed) (λ z. omega arith);
           lower = untold (g .lower) (λ z. omega arith);
           upper = untold (g .upper) (λ z. omega arith);

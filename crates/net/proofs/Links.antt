@@ -51,12 +51,11 @@ link-past (suc n) p r h e = go (λ l. link-past n p r l e) (p n) refl
 
 module _ (tb : Table) where
   -- Before the first record there is no chain.
-  pub linked-none : (next : List ℕ) → length next ≡ 1024 → Linked tb 0 (replicate 256 0) next
+  pub linked-none : (next : List ℕ) → Linked tb 0 (replicate 256 0) next
   unfolding link
-  linked-none next long =
+  linked-none next =
       record {
         many-heads = length-replicate {A = ℕ} 256 0;
-        many-links = long;
         begins = λ s t l h. getD-replicate 256 (64 * s + t) 0 0 (omega arith);
         goes-on = λ r h. absurd (not-suc-le-zero h);
       }
@@ -68,23 +67,21 @@ module _ (tb : Table) where
     linked-same none =
         record {
           many-heads = g .many-heads;
-          many-links = g .many-links;
           begins = λ s t l h. g .begins s t l h ∙ rw (add-one r, ne-eqb (tb .kind r) 3 none);
           goes-on = λ k h kind.
               ⊎-elim (λ (z : k ≡ r). absurd (none (ap (tb .kind) (sym z) ∙ kind))) (λ (l : k < r). g .goes-on k l kind) (last (rw add-one at h));
         }
 
     -- Record r is one: the chain of its sort and transition begins with it and goes on with what it began with.
-    pub linked-more : tb .kind r ≡ 3 → tb .sort r < 4 → tb .two r < 64 → r < 1024 → (k : ℕ) → k ≡ 64 * tb .sort r + tb .two r
+    pub linked-more : tb .kind r ≡ 3 → tb .sort r < 4 → tb .two r < 64 → r < length next → (k : ℕ) → k ≡ 64 * tb .sort r + tb .two r
         → Linked tb (r + 1) (set heads k (r + 1)) (set next r (getD heads k 0))
     unfolding link
     linked-more kind sort two inside k k-is =
         record {
           many-heads = length-set heads _ _ ∙ g .many-heads;
-          many-links = length-set next _ _ ∙ g .many-links;
           begins = λ s t l h. rw (add-one r, eq-eqb _ _ kind) (at s t l h (eqb (tb .sort r) s) (eqb (tb .two r) t) refl refl);
           goes-on = λ q h is.
-              ⊎-elim (λ (z : q ≡ r). rw z (getD-set-same next r _ 0 (omega (arith, g .many-links)) ∙ rw k-is (g .begins (tb .sort r) (tb .two r) sort two)))
+              ⊎-elim (λ (z : q ≡ r). rw z (getD-set-same next r _ 0 inside ∙ rw k-is (g .begins (tb .sort r) (tb .two r) sort two)))
               (λ (l : q < r). getD-set-other next r q _ 0 (λ z. omega arith) ∙ g .goes-on q l is)
               (last (rw add-one at h));
         }

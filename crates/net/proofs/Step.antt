@@ -7,17 +7,18 @@ use Prim.Native.Nat.{ℕ, _+_, _/_, _≤_, _<_}
 use native.Mathlib.Numerals.{add-one}
 use native.Mathlib.Omega.{arith}
 use lib.Dec.{eqb, ltb}
-use lib.ListN.{length, getD, set, replicate, length-set, length-replicate, getD-replicate}
+use lib.ListN.{length, getD, set, replicate, length-set, length-replicate, getD-replicate, List·getD-eq-default}
 use lib.Seq.{getD-set-same, getD-set-other}
-use borrow.Author.Tests.{eqb-true, eqb-false, lt-ltb, ltb-true}
+use borrow.Author.Tests.{eqb-true, eqb-false, lt-ltb, ltb-true, ltb-false}
 use Rattle.meaning.specs.Below.{some}
 use Rattle.meaning.specs.Bytes.{bit}
 use Rattle.meaning.specs.Table.{Table, table, is}
 use Rattle.meaning.proofs.Bool.{and-left, and-right, and-true, not-both, same-test}
 use Rattle.meaning.proofs.Reflect.{not-true-false}
 use Rattle.sets.proofs.Bits.{bit-zero}
+use Rattle.table.proofs.Passed.{all-zero}
 use Rattle.net.specs.Rows.{latest, cell, input}
-use Rattle.net.specs.Grow.{Grown, Kept, declares, Told}
+use Rattle.net.specs.Grow.{Grown, Grown-all, Kept, declares, Told}
 
 pub all-read : (bs : List ℕ) (r : ℕ) → r ≤ length bs / 8 → length bs / 8 ≤ r → r ≡ table bs .records
 unfolding table
@@ -34,14 +35,15 @@ in-range k c o x m h e =
     and-true (and-left k (eqb o x) f) (lt-ltb o m (omega (arith, eqb-true o x (and-right k (eqb o x) f))))
 
 module _ (m : ℕ) (f : ℕ → ℕ → ℕ → Bool) where
-  -- Before the first record all rows are empty.
-  pub grown-none : Grown m 0 f (replicate m 0)
+  -- Before the first record all rows are empty, however many there are.
+  pub grown-blank : (rows : List ℕ) → rows ≡ replicate (length rows) 0 → Grown m 0 f rows
   unfolding some
+  grown-blank rows e = record { holds = λ x y h l. ap (λ (v : ℕ). bit v y) (all-zero rows e x) ∙ bit-zero y }
+
+  pub grown-none : Grown-all m 0 f (replicate m 0)
   grown-none =
-      record {
-        size = length-replicate m 0;
-        holds = λ x y h l. ap (λ (v : ℕ). bit v y) (getD-replicate m x 0 0 h) ∙ bit-zero y;
-      }
+      let size : length {A = ℕ} (replicate m 0) ≡ m = length-replicate m 0 in
+      (size, grown-blank (replicate m 0) (ap (λ (n : ℕ). replicate {A = ℕ} n 0) (sym size)))
 
   -- Record r, where k holds, puts into row a what passes q.
   module _ (r : ℕ) (rows : List ℕ) (g : Grown m r f rows) (k : Bool) (a : ℕ) (q : ℕ → Bool)
@@ -51,29 +53,24 @@ module _ (m : ℕ) (f : ℕ → ℕ → ℕ → Bool) where
     unfolding some
     grown-same e =
         record {
-          size = g .size;
           holds = λ x y h l.
               g .holds x y h l
               ∙ rw (add-one r, says x y, fails (in-range k (q y) a x m h) e) (sym (or-false (some r (f x y))));
         }
 
     -- There is one, and it is stored anew.
-    pub grown-more : (k && ltb a m) ≡ true → (v : ℕ) → ((j : ℕ) → j < 64 → bit v j ≡ (bit (getD rows a 0) j || q j))
+    pub grown-more : (k && ltb a m) ≡ true → a < length rows → (v : ℕ) → ((j : ℕ) → j < 64 → bit v j ≡ (bit (getD rows a 0) j || q j))
         → Grown m (r + 1) f (set rows a v)
     unfolding some
-    grown-more e v gains =
+    grown-more e there v gains =
         record {
-          size = length-set rows a v ∙ g .size;
           holds = λ x y h l.
               rw (add-one r, says x y, and-left k (ltb a m) e, ← g .holds x y h l) (at x y l (eqb a x) refl);
         }
       where
-        low : a < m
-        low = ltb-true a m (and-right k (ltb a m) e)
-
         at : (x y : ℕ) → y < 64 → (b : Bool) → eqb a x ≡ b → bit (getD (set rows a v) x 0) y ≡ (bit (getD rows x 0) y || (b && q y))
         at x y l true e =
-            rw (← eqb-true a x e) (ap (λ (z : ℕ). bit z y) (getD-set-same rows a v 0 (omega (arith, low, g .size))) ∙ gains y l)
+            rw (← eqb-true a x e) (ap (λ (z : ℕ). bit z y) (getD-set-same rows a v 0 there) ∙ gains y l)
         at x y l false e =
             ap (λ (z : ℕ). bit z y) (getD-set-other rows a x v 0 (λ q. eqb-false a x e (sym q))) ∙ sym (or-false (bit (getD rows x 0) y))
 
@@ -81,29 +78,35 @@ module _ (m : ℕ) (f : ℕ → ℕ → ℕ → Bool) where
 abbrev pub empty : List ℕ
 empty = replicate 64 0
 
-module _ (tb : Table) (f : ℕ → ℕ) where
+module _ (tb : Table) (f : ℕ → ℕ) (rows : ℕ) where
   -- Before the first record all cells are 0.
-  pub kept-none : Kept tb f 0 (replicate 128 empty)
+  pub kept-none : Kept tb f rows 0 (replicate rows empty)
   unfolding latest
   kept-none =
       record {
-        places = length-replicate 128 empty;
+        places = length-replicate rows empty;
         transitions = λ p h. ap (λ (l : List ℕ). length l) (row p h) ∙ length-replicate {A = ℕ} 64 0;
-        holds = λ p t h l. ap (λ (z : List ℕ). getD z t 0) (row p h) ∙ getD-replicate 64 t 0 0 l;
+        holds = λ p t h l. nothing p t l (ltb p rows) refl;
       }
     where
-      row : (p : ℕ) → p < 128 → getD (replicate 128 empty) p [] ≡ empty
-      row p h = getD-replicate 128 p empty [] h
+      row : (p : ℕ) → p < rows → getD (replicate rows empty) p [] ≡ empty
+      row p h = getD-replicate rows p empty [] h
 
-  module _ (r : ℕ) (w : List (List ℕ)) (g : Kept tb f r w) where
+      nothing : (p t : ℕ) → t < 64 → (b : Bool) → ltb p rows ≡ b → cell (replicate rows empty) p t ≡ 0
+      nothing p t l true e = ap (λ (z : List ℕ). getD z t 0) (row p (ltb-true p rows e)) ∙ getD-replicate 64 t 0 0 l
+      nothing p t l false e =
+          ap (λ (z : List ℕ). getD z t 0)
+          (List·getD-eq-default (replicate rows empty) [] (omega (arith, ltb-false p rows e, length-replicate rows empty)))
+
+  module _ (r : ℕ) (w : List (List ℕ)) (g : Kept tb f rows r w) where
     -- Record r is no input arc.
-    pub kept-same : (is tb 3 r && ltb (tb .sort r) 3) ≡ false → Kept tb f (r + 1) w
+    pub kept-same : (is tb 3 r && ltb (tb .sort r) 3) ≡ false → Kept tb f rows (r + 1) w
     unfolding latest
     kept-same e = record { places = g .places; transitions = g .transitions; holds = λ p t h l. g .holds p t h l ∙ rw (add-one r, e) }
 
     -- It is one from place a to transition b, whose cell takes what the record says.
-    pub kept-more : (a b : ℕ) → a < 128 → b < 64 → input tb a b r ≡ true → (v : ℕ) → v ≡ f r
-        → Kept tb f (r + 1) (set w a (set (getD w a []) b v))
+    pub kept-more : (a b : ℕ) → a < rows → b < 64 → input tb a b r ≡ true → (v : ℕ) → v ≡ f r
+        → Kept tb f rows (r + 1) (set w a (set (getD w a []) b v))
     unfolding latest
     kept-more a b place transition here v is =
         record {
@@ -131,7 +134,7 @@ module _ (tb : Table) (f : ℕ → ℕ) where
         other : (p : ℕ) → eqb a p ≡ false → getD (set w a (set (getD w a []) b v)) p [] ≡ getD w p []
         other p x = getD-set-other w a p (set (getD w a []) b v) [] (λ z. eqb-false a p x (sym z))
 
-        long : (p : ℕ) → p < 128 → (x : Bool) → eqb a p ≡ x → length (getD (set w a (set (getD w a []) b v)) p []) ≡ 64
+        long : (p : ℕ) → p < rows → (x : Bool) → eqb a p ≡ x → length (getD (set w a (set (getD w a []) b v)) p []) ≡ 64
         long p h true x = ap (λ (l : List ℕ). length l) (same p x) ∙ length-set (getD w a []) b v ∙ g .transitions a place
         long p h false x = ap (λ (l : List ℕ). length l) (other p x) ∙ g .transitions p h
 

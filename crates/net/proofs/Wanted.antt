@@ -4,7 +4,7 @@ use mathlib.Core.Bool.{Bool, true, _&&_}
 use mathlib.Core.List.{List}
 use mathlib.Core.Logic.{inl, inr}
 use mathlib.Core.Path.{_≡_, refl, sym, ap, _∙_}
-use Prim.Native.Nat.{ℕ, _+_, _<_}
+use Prim.Native.Nat.{ℕ, _+_, _*_, _<_}
 use native.Mathlib.Omega.{arith}
 use lib.Dec.{eqb}
 use lib.ListN.{getD}
@@ -46,18 +46,18 @@ module _ (tb : Table) (index truths : List ℕ) (clean : Clean tb index) (wanted
           let alike : Same tb x y = Same.condition (p .1) (q .1) (p .2 ∙ sym (q .2)) (p .3 ∙ sym (q .3)) in
           not-both (same-decides tb x y (shown clean x (p .0)) (shown clean y (q .0)) .1 alike) alone
 
-  -- Row 448 + t of the index has the conditions of t.
+  -- Row 8 * t + 4 of the index has the conditions of t.
   module _ (t k : ℕ) (ht : t < 64) (hk : k < 64) where
-    looked : bit (getD index (448 + t) 0) k ≡ some (tb .records) (λ r. is tb 4 r && eqb (tb .one r) t && eqb (tb .two r) k)
+    looked : bit (getD index (8 * t + 4) 0) k ≡ some (tb .records) (λ r. is tb 4 r && eqb (tb .one r) t && eqb (tb .two r) k)
     unfolding row every
     looked =
-        clean .index .holds (448 + t) k (omega arith) hk
+        clean .index .holds (8 * t + 4) k (omega arith) hk
         ∙ some-same (tb .records) _ _
         (λ r l.
         let z = spot (shown clean r l) in
-        ap (λ (b : Bool). b && eqb (tb .two r) k) (row-test z 4 t (omega arith) ht) ∙ rw (class-is 4 4 refl z))
+        ap (λ (b : Bool). b && eqb (tb .two r) k) (row-test z 4 t (omega arith)) ∙ rw (class-is 4 4 refl z))
 
-    pub looked-record : bit (getD index (448 + t) 0) k ≡ true → (r : ℕ) × Looks tb t k r
+    pub looked-record : bit (getD index (8 * t + 4) 0) k ≡ true → (r : ℕ) × Looks tb t k r
     looked-record e =
         let w = some-elim (tb .records) _ (sym looked ∙ e) in
         let r : ℕ = w .0 in
@@ -71,7 +71,7 @@ module _ (tb : Table) (index truths : List ℕ) (clean : Clean tb index) (wanted
           ),
         )
 
-    pub record-looked : (r : ℕ) → Looks tb t k r → bit (getD index (448 + t) 0) k ≡ true
+    pub record-looked : (r : ℕ) → Looks tb t k r → bit (getD index (8 * t + 4) 0) k ≡ true
     record-looked r n = looked ∙ some-intro (tb .records) _ r (n .0) (and-true (and-true (eq-eqb _ _ (n .1)) (eq-eqb _ _ (n .2))) (eq-eqb _ _ (n .3)))
 
     -- What is wanted true is a record of sort 0.

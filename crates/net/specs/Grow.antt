@@ -14,15 +14,19 @@ use Rattle.net.specs.Rows.{latest, cell, input}
 abbrev pub names : Table → ℕ → ℕ → ℕ → ℕ → ℕ → Bool
 names tb kind sort x y k = is tb kind k && eqb (tb .sort k) sort && eqb (tb .one k) x && eqb (tb .two k) y
 
--- Of the first r records, f x y says which put y into row x; the m rows hold just these.
+-- Of the first r records, f x y says which put y into row x; the first m rows hold just these, and a row that is not there holds nothing.
 pub record Grown (m r : ℕ) (f : ℕ → ℕ → ℕ → Bool) (rows : List ℕ) : Type 0 where
-  pub size : length rows ≡ m
   pub holds : (x y : ℕ) → x < m → y < 64 → bit (getD rows x 0) y ≡ some r (f x y)
 
--- Each cell holds column f of the last input arc at its place and transition, of the first r records.
-pub record Kept (tb : Table) (f : ℕ → ℕ) (r : ℕ) (w : List (List ℕ)) : Type 0 where
-  pub places : length w ≡ 128
-  pub transitions : (p : ℕ) → p < 128 → length (getD w p []) ≡ 64
+-- The same of m rows, no more and no fewer.
+abbrev pub Grown-all : ℕ → ℕ → (ℕ → ℕ → ℕ → Bool) → List ℕ → Type 0
+Grown-all m r f rows = (length rows ≡ m) × Grown m r f rows
+
+-- Each cell of so many rows, one for a place, holds column f of the last input arc at its place and transition, of the first r records; no place past
+-- the rows has one.
+pub record Kept (tb : Table) (f : ℕ → ℕ) (rows r : ℕ) (w : List (List ℕ)) : Type 0 where
+  pub places : length w ≡ rows
+  pub transitions : (p : ℕ) → p < rows → length (getD w p []) ≡ 64
   pub holds : (p t : ℕ) → p < 128 → t < 64 → cell w p t ≡ latest r (input tb p t) f
 
 -- Record k declares transition t.

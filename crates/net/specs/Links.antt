@@ -9,7 +9,6 @@ use Rattle.net.specs.Chains.{link, arc-of}
 -- The chains of the first n records. The heads are four rows of 64, a row for each sort.
 pub record Linked (tb : Table) (n : ℕ) (heads next : List ℕ) : Type 0 where
   pub many-heads : length heads ≡ 256
-  pub many-links : length next ≡ 1024
   pub begins : (sort t : ℕ) → sort < 4 → t < 64 → getD heads (64 * sort + t) 0 ≡ link n (arc-of tb sort t)
   pub goes-on : (r : ℕ) → r < n → tb .kind r ≡ 3 → getD next r 0 ≡ link r (arc-of tb (tb .sort r) (tb .two r))
 

@@ -13,15 +13,15 @@ use Rattle.table.specs.Index.{row-of}
 use Rattle.net.specs.Grow.{names, Grown, Told}
 use Rattle.net.specs.Links.{Linked}
 
--- Nothing is filed yet, and each record has a link.
+-- Nothing is filed yet, however many rows and links there are.
 pub record Blank (takers truths sorts a b heads next : List ℕ) : Type 0 where
-  pub no-takers : takers ≡ replicate 128 0
-  pub no-truths : truths ≡ replicate 128 0
+  pub no-takers : takers ≡ replicate (length takers) 0
+  pub no-truths : truths ≡ replicate (length truths) 0
   pub no-sorts : sorts ≡ replicate 64 0
   pub no-a : a ≡ replicate 64 0
   pub no-b : b ≡ replicate 64 0
   pub no-heads : heads ≡ replicate 256 0
-  pub many-links : length next ≡ 1024
+  pub no-links : next ≡ replicate (length next) 0
 
 -- Row q has y beside what it had, and the others are as they were.
 pub record Entered (rows : List ℕ) (q y : ℕ) (after : List ℕ) : Type 0 where

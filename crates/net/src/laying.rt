@@ -2,19 +2,19 @@
 // transition's arcs.
 ghost use mathlib.Core.Bool.{Bool, true};
 ghost use mathlib.Core.Path.{_≡_};
-ghost use lib.ListN.{replicate};
+ghost use lib.ListN.{length, replicate};
 ghost use Prim.Native.Nat.{ℕ, _+_, _≤_, _<_};
 ghost use Rattle.meaning.specs.Answer.{accepted};
 ghost use Rattle.meaning.specs.Defined.{check};
 ghost use Rattle.meaning.specs.Table.{Table, table, total, arc};
 ghost use Rattle.net.specs.Rows.{Gathered, input, Weights, Sorts};
-ghost use Rattle.net.specs.Grow.{names, Grown, Kept};
+ghost use Rattle.net.specs.Grow.{names, Grown-all, Kept};
 ghost use Rattle.net.specs.Chains.{between, Reached, Enters};
 
 // An input arc from place p to transition t leaves its weight and its sort there.
-fn keep(w: &mut [[u16; 64]; 128], s: &mut [[u8; 64]; 128], p: usize, t: usize, four: u16, sort: u8)
-    requires { ⌜ (p < 128) × (t < 64) ⌝ }
-    ensures { λ _. ⌜ ((tb : Table) (r : ℕ) → input tb p t r ≡ true → four ≡ tb .four r → sort ≡ tb .sort r → Kept tb (tb .four) r (now (w .entry)) → Kept tb (tb .sort) r (now (s .entry)) → Kept tb (tb .four) (r + 1) (now (w .exit)) × Kept tb (tb .sort) (r + 1) (now (s .exit))) ⌝ }
+fn keep(w: &mut [[u16; 64]], s: &mut [[u8; 64]], p: usize, t: usize, four: u16, sort: u8)
+    requires { ⌜ (p < length (now w)) × (p < length (now s)) × (t < 64) ⌝ }
+    ensures { λ _. ⌜ ((tb : Table) (rows r : ℕ) → input tb p t r ≡ true → four ≡ tb .four r → sort ≡ tb .sort r → Kept tb (tb .four) rows r (now (w .entry)) → Kept tb (tb .sort) rows r (now (s .entry)) → Kept tb (tb .four) rows (r + 1) (now (w .exit)) × Kept tb (tb .sort) rows (r + 1) (now (s .exit))) ⌝ }
 {
     w[p][t] = four;
     s[p][t] = sort;
@@ -35,7 +35,7 @@ fn touch(low: &mut [u64; 64], high: &mut [u64; 64], t: usize, p: usize)
 // An arc of this sort from place p to transition t: an inhibitor arc is added to those of its place.
 fn curb(curbs: &mut [u64; 128], p: usize, t: usize, sort: u8)
     requires { ⌜ (p < 128) × (t < 64) ⌝ }
-    ensures { λ _. ⌜ ((tb : Table) (r : ℕ) → tb .kind r ≡ 3 → p ≡ tb .one r → t ≡ tb .two r → sort ≡ tb .sort r → Grown 128 r (names tb 3 2) (now (curbs .entry)) → Grown 128 (r + 1) (names tb 3 2) (now (curbs .exit))) ⌝ }
+    ensures { λ _. ⌜ ((tb : Table) (r : ℕ) → tb .kind r ≡ 3 → p ≡ tb .one r → t ≡ tb .two r → sort ≡ tb .sort r → Grown-all 128 r (names tb 3 2) (now (curbs .entry)) → Grown-all 128 (r + 1) (names tb 3 2) (now (curbs .exit))) ⌝ }
 {
     if sort == 2 {
         curbs[p] = sets::union(curbs[p], sets::single(t));
@@ -43,18 +43,20 @@ fn curb(curbs: &mut [u64; 128], p: usize, t: usize, sort: u8)
 }
 
 // Lays out the arcs. `w` and `s` get the weights and the sorts of the input arcs, place by transition, and `curbs` for each place who has an inhibitor arc
-// from it. `low` and `high` get the places of each transition's input arcs, as `touch` keeps them. All are lent empty. The answer is the weight of all post arcs together.
+// from it. `low` and `high` get the places of each transition's input arcs, as `touch` keeps them. All are lent empty, `w` and `s` with a row for every place of
+// the table. The answer is the weight of all post arcs together.
 pub fn lay_arcs(
     t: &[u8],
-    w: &mut [[u16; 64]; 128],
-    s: &mut [[u8; 64]; 128],
+    w: &mut [[u16; 64]],
+    s: &mut [[u8; 64]],
     curbs: &mut [u64; 128],
     low: &mut [u64; 64],
     high: &mut [u64; 64],
 ) -> u32
     requires { ⌜ check (now t) ≡ accepted 0 ⌝ }
-    requires { ⌜ (now w ≡ replicate 128 (replicate 64 0)) × (now s ≡ replicate 128 (replicate 64 0)) × (now curbs ≡ replicate 128 0) ⌝ }
+    requires { ⌜ (now w ≡ replicate (length (now w)) (replicate 64 0)) × (now s ≡ replicate (length (now w)) (replicate 64 0)) × (now curbs ≡ replicate 128 0) ⌝ }
     requires { ⌜ (now low ≡ replicate 64 0) × (now high ≡ replicate 64 0) ⌝ }
+    requires { ⌜ ((r : ℕ) → r < table (now t) .records → table (now t) .one r < length (now w)) ⌝ }
     ensures { λ _. ⌜ Weights (table (now (t .entry))) (now (w .exit)) × Sorts (table (now (t .entry))) (now (s .exit)) ⌝ }
     ensures { λ _. ⌜ Gathered (table (now (t .entry))) 3 2 (now (curbs .exit)) ⌝ }
     ensures { λ _. ⌜ Enters (table (now (t .entry))) (table (now (t .entry)) .records) (now (low .exit)) (now (high .exit)) ⌝ }

@@ -7,12 +7,12 @@ ghost use mathlib.Core.List.{[]};
 ghost use mathlib.Core.Path.{_≡_};
 ghost use lib.Dec.{eqb};
 ghost use lib.ListN.{length, getD, set, replicate};
-ghost use Prim.Native.Nat.{ℕ, _+_, _≤_, _<_};
+ghost use Prim.Native.Nat.{ℕ, _+_, _*_, _≤_, _<_};
 ghost use Rattle.meaning.specs.Bytes.{bit};
 ghost use Rattle.meaning.specs.Defined.{inhibited};
 ghost use Rattle.meaning.specs.Table.{Table, table};
 ghost use Rattle.records.specs.Record.{Reads, kind-rows};
-ghost use Rattle.table.specs.Index.{plain-blocks, arc-blocks, Scanned};
+ghost use Rattle.table.specs.Index.{plain-classes, arc-classes, Roomy, Scanned};
 ghost use Rattle.net.specs.Rows.{Blank-from, Conflicts};
 ghost use Rattle.net.specs.Links.{Chained};
 ghost use Rattle.net.specs.Pass.{Blank, Entered, Kept-in, kept, Arcs, Others};
@@ -22,8 +22,8 @@ pub mod laying; // laying.rt: the arcs laid out for the cycles
 
 // For each transition the set of those others that take from a place from which it takes: takers[p] is who takes from place p. A place from which one
 // alone takes tells nothing. From place n on nobody takes, and the rows are lent empty.
-pub fn conflicts(takers: &[u64; 128], rows: &mut [u64; 64], n: usize)
-    requires { ⌜ Blank-from 128 n (now takers) ⌝ }
+pub fn conflicts(takers: &[u64], rows: &mut [u64; 64], n: usize)
+    requires { ⌜ Blank-from 128 n (now takers) × (n ≤ length (now takers)) ⌝ }
     requires { ⌜ now rows ≡ replicate 64 0 ⌝ }
     ensures { λ _. ⌜ Conflicts (now (takers .entry)) (now (rows .exit)) ⌝ }
 {
@@ -56,9 +56,9 @@ fn opposes(x: Rec, y: Rec) -> bool
 }
 
 // Is there an arc in the chain from `first` on with the place and the weight of y?
-fn opposed(t: &[u8], next: &[u16; 1024], first: u16, y: Rec) -> bool
+fn opposed(t: &[u8], next: &[u16], first: u16, y: Rec) -> bool
     requires { ⌜ Hung (table (now t)) first (now next) ⌝ }
-    requires { ⌜ table (now t) .records ≤ 1024 ⌝ }
+    requires { ⌜ table (now t) .records ≤ length (now next) ⌝ }
     ensures { λ b. ⌜ Opposed (table (now (t .entry))) first (y .one) (y .four) b ⌝ }
 {
     let mut link = count(first);
@@ -73,9 +73,9 @@ fn opposed(t: &[u8], next: &[u16; 1024], first: u16, y: Rec) -> bool
 }
 
 // Does some place have a basic or test arc to i and an inhibitor arc of equal weight to j? `heads` and `next` chain the arcs.
-pub fn inhibits(t: &[u8], heads: &[u16; 256], next: &[u16; 1024], i: usize, j: usize) -> bool
+pub fn inhibits(t: &[u8], heads: &[u16; 256], next: &[u16], i: usize, j: usize) -> bool
     requires { ⌜ Chained (table (now t)) (now heads) (now next) ⌝ }
-    requires { ⌜ (i < 64) × (j < 64) × (table (now t) .records ≤ 1024) ⌝ }
+    requires { ⌜ (i < 64) × (j < 64) × (table (now t) .records ≤ length (now next)) ⌝ }
     ensures { λ b. ⌜ b ≡ inhibited (table (now (t .entry))) i j ⌝ }
 {
     let mut link = count(heads[128 + j]);
@@ -94,8 +94,8 @@ pub fn inhibits(t: &[u8], heads: &[u16; 256], next: &[u16; 1024], i: usize, j: u
 }
 
 // Sets bit y of row q. Was it set already?
-fn enter(rows: &mut [u64; 768], q: usize, y: usize) -> bool
-    requires { ⌜ (q < 768) × (y < 64) ⌝ }
+fn enter(rows: &mut [u64], q: usize, y: usize) -> bool
+    requires { ⌜ (q < length (now rows)) × (y < 64) ⌝ }
     ensures { λ r. ⌜ r ≡ bit (getD (now (rows .entry)) q 0) y ⌝ }
     ensures { λ r. ⌜ (r ≡ true → now (rows .exit) ≡ now (rows .entry)) ⌝ }
     ensures { λ r. ⌜ (r ≡ false → Entered (now (rows .entry)) q y (now (rows .exit))) ⌝ }
@@ -110,8 +110,8 @@ fn enter(rows: &mut [u64; 768], q: usize, y: usize) -> bool
 }
 
 // Hangs record r into chain k: the chain begins with r and goes on with what it began with.
-fn chain(heads: &mut [u16; 256], next: &mut [u16; 1024], k: usize, r: usize)
-    requires { ⌜ (k < 256) × (r < 1024) ⌝ }
+fn chain(heads: &mut [u16; 256], next: &mut [u16], k: usize, r: usize)
+    requires { ⌜ (k < 256) × (r < 1024) × (r < length (now next)) ⌝ }
     ensures { λ _. ⌜ (now (heads .exit) ≡ set (now (heads .entry)) k (r + 1)) × (now (next .exit) ≡ set (now (next .entry)) r (getD (now (heads .entry)) k 0)) ⌝ }
 {
     next[r] = heads[k];
@@ -119,18 +119,19 @@ fn chain(heads: &mut [u16; 256], next: &mut [u16; 1024], k: usize, r: usize)
 }
 
 // Record r, an arc, is tested for 2, 3 and 4; the answer is its fault. Where it has none it is kept in the index and in the chain of its sort and
-// transition, and if it is a basic arc its transition is added to those that take from its place.
+// transition, and if it is a basic arc its transition is added to those that take from its place. There is room for its number and its link.
 fn keep_arc(
     r: usize,
     x: Rec,
     row: &[u16; 5],
     arcs: &[usize; 4],
-    rows: &mut [u64; 768],
-    takers: &mut [u64; 128],
+    rows: &mut [u64],
+    takers: &mut [u64],
     heads: &mut [u16; 256],
-    next: &mut [u16; 1024],
+    next: &mut [u16],
 ) -> u8
-    requires { ⌜ (r < 1024) × (x .kind ≡ 3) × (now row ≡ getD kind-rows 2 []) × (now arcs ≡ arc-blocks) ⌝ }
+    requires { ⌜ (r < 1024) × (x .kind ≡ 3) × (now row ≡ getD kind-rows 2 []) × (now arcs ≡ arc-classes) ⌝ }
+    requires { ⌜ (x .one < 128 → x .one < length (now takers)) × (length (now rows) ≡ 8 * length (now takers)) × (r < length (now next)) ⌝ }
     ensures { λ f. ⌜ Kept-in (now (rows .entry)) x f (now (rows .exit)) ⌝ }
     ensures { λ f. ⌜ ((tb : Table) → Reads tb r x → Arcs tb r (now (takers .entry)) (now (heads .entry)) (now (next .entry)) → Arcs tb (r + kept f) (now (takers .exit)) (now (heads .exit)) (now (next .exit))) ⌝ }
 {
@@ -152,18 +153,19 @@ fn keep_arc(
 }
 
 // The same for a record that is no arc: a condition wanted true is added to those that its transition wants true, and a declared transition leaves its
-// sort, a and b.
+// sort, a and b. There is room for its number.
 fn keep_other(
     x: Rec,
     kinds: &[[u16; 5]; 7],
-    blocks: &[usize; 8],
-    rows: &mut [u64; 768],
-    truths: &mut [u64; 128],
+    classes: &[usize; 8],
+    rows: &mut [u64],
+    truths: &mut [u64],
     sorts: &mut [u8; 64],
     a: &mut [u16; 64],
     b: &mut [u16; 64],
 ) -> u8
-    requires { ⌜ (¬ (x .kind ≡ 3)) × (now kinds ≡ kind-rows) × (now blocks ≡ plain-blocks) ⌝ }
+    requires { ⌜ (¬ (x .kind ≡ 3)) × (now kinds ≡ kind-rows) × (now classes ≡ plain-classes) ⌝ }
+    requires { ⌜ (x .one < 128 → x .one < length (now truths)) × (length (now rows) ≡ 8 * length (now truths)) ⌝ }
     ensures { λ f. ⌜ Kept-in (now (rows .entry)) x f (now (rows .exit)) ⌝ }
     ensures { λ f. ⌜ ((tb : Table) (r : ℕ) → Reads tb r x → Others tb r (now (truths .entry)) (now (sorts .entry)) (now (a .entry)) (now (b .entry)) → Others tb (r + kept f) (now (truths .exit)) (now (sorts .exit)) (now (a .exit)) (now (b .exit))) ⌝ }
 {
@@ -174,7 +176,7 @@ fn keep_other(
     let kind = x.kind;
     let one = records::wide(x.one);
     let two = records::wide(x.two);
-    if enter(rows, table::row(x, blocks), two) {
+    if enter(rows, table::row(x, classes), two) {
         return 4;
     }
     if kind == 4 {
@@ -192,53 +194,43 @@ fn keep_other(
 }
 
 // Each record in order is tested for 2, 3 and 4; one that says what an earlier one said finds its bit in the index set. The rows and the chains are lent
-// empty, and hold the records before the one at which the pass ends: the index all of them, the others the arcs, conditions and transitions.
+// empty, with room for the numbers and the records of the table, and hold the records before the one at which the pass ends: the index all of them, the
+// others the arcs, conditions and transitions.
 pub fn scan(
     t: &[u8],
-    rows: &mut [u64; 768],
-    takers: &mut [u64; 128],
-    truths: &mut [u64; 128],
+    rows: &mut [u64],
+    takers: &mut [u64],
+    truths: &mut [u64],
     sorts: &mut [u8; 64],
     a: &mut [u16; 64],
     b: &mut [u16; 64],
     heads: &mut [u16; 256],
-    next: &mut [u16; 1024],
+    next: &mut [u16],
 ) -> Pass
     requires { ⌜ length (now t) ≤ 8192 ⌝ }
-    requires { ⌜ now rows ≡ replicate 768 0 ⌝ }
+    requires { ⌜ now rows ≡ replicate (length (now rows)) 0 ⌝ }
     requires { ⌜ Blank (now takers) (now truths) (now sorts) (now a) (now b) (now heads) (now next) ⌝ }
+    requires { ⌜ Roomy (table (now t)) (length (now takers)) × (length (now rows) ≡ 8 * length (now takers)) × (length (now truths) ≡ length (now takers)) × (table (now t) .records ≤ length (now next)) ⌝ }
     ensures { λ s. ⌜ Scanned (table (now (t .entry))) s (now (rows .exit)) ⌝ }
     ensures { λ s. ⌜ Arcs (table (now (t .entry))) (s .at) (now (takers .exit)) (now (heads .exit)) (now (next .exit)) ⌝ }
     ensures { λ s. ⌜ Others (table (now (t .entry))) (s .at) (now (truths .exit)) (now (sorts .exit)) (now (a .exit)) (now (b .exit)) ⌝ }
 {
     let n = t.len() / 8;
     let kinds = records::kinds();
-    let blocks = table::blocks();
-    let arcs = table::arc_blocks();
-    let mut top = 0;
+    let classes = table::classes();
+    let arcs = table::arc_classes();
     let mut r = 0;
     while r < n {
         let x = records::read(t, r);
         let f = if x.kind == 3 {
             keep_arc(r, x, &kinds[2], &arcs, rows, takers, heads, next)
         } else {
-            keep_other(x, &kinds, &blocks, rows, truths, sorts, a, b)
+            keep_other(x, &kinds, &classes, rows, truths, sorts, a, b)
         };
         if f != 0 {
-            let reach = top + 1;
-            return Pass {
-                number: f,
-                at: r,
-                reach,
-            };
+            return Pass { number: f, at: r };
         }
-        top = table::larger(top, records::wide(x.one));
         r += 1;
     }
-    let reach = top + 1;
-    Pass {
-        number: 0,
-        at: n,
-        reach,
-    }
+    Pass { number: 0, at: n }
 }

@@ -4,7 +4,7 @@ use mathlib.Core.Bool.{Bool, true, false, not, _&&_, _||_}
 use mathlib.Core.List.{List}
 use mathlib.Core.Logic.{⊎-elim}
 use mathlib.Core.Path.{_≡_, refl, sym, ap, _∙_}
-use Prim.Native.Nat.{ℕ, _+_, _<_}
+use Prim.Native.Nat.{ℕ, _+_, _*_, _<_}
 use native.Mathlib.Omega.{arith}
 use lib.Dec.{eqb}
 use lib.ListN.{getD}
@@ -27,15 +27,15 @@ use Rattle.pairs.specs.Settled.{crossed-by, crossed-at}
 
 -- Transition t looks at condition k and does not want it true.
 abbrev shunned : List ℕ → List ℕ → ℕ → ℕ → Bool
-shunned index truths t k = bit (getD index (448 + t) 0) k && not (bit (getD truths t 0) k)
+shunned index truths t k = bit (getD index (8 * t + 4) 0) k && not (bit (getD truths t 0) k)
 
 module _ (tb : Table) (index truths : List ℕ) (clean : Clean tb index) (wanted : Gathered tb 4 0 truths) where
   module _ (t k : ℕ) (ht : t < 64) (hk : k < 64) where
     -- What is looked at and not wanted true is a record of another sort, and the other way round.
     false-record : shunned index truths t k ≡ true → (r : ℕ) × Looks tb t k r × (¬ (tb .sort r ≡ 0))
     false-record e =
-        let w = looked-record tb index truths clean wanted t k ht hk (and-left (bit (getD index (448 + t) 0) k) (not (bit (getD truths t 0) k)) e) in
-        let lacks = not-true (bit (getD truths t 0) k) (and-right (bit (getD index (448 + t) 0) k) (not (bit (getD truths t 0) k)) e) in
+        let w = looked-record tb index truths clean wanted t k ht hk (and-left (bit (getD index (8 * t + 4) 0) k) (not (bit (getD truths t 0) k)) e) in
+        let lacks = not-true (bit (getD truths t 0) k) (and-right (bit (getD index (8 * t + 4) 0) k) (not (bit (getD truths t 0) k)) e) in
         (w .0, w .1, λ z. not-both (record-true tb index truths clean wanted t k ht hk (w .0) (w .1) z) lacks)
 
     record-false : (r : ℕ) → Looks tb t k r → ¬ (tb .sort r ≡ 0) → shunned index truths t k ≡ true

@@ -2,7 +2,7 @@
 use mathlib.Core.Bool.{Bool, not, _&&_, _||_}
 use mathlib.Core.List.{List}
 use mathlib.Core.Path.{_≡_}
-use Prim.Native.Nat.{ℕ, _+_, _/_, _%_, _<_}
+use Prim.Native.Nat.{ℕ, _+_, _*_, _/_, _%_, _<_}
 use lib.Dec.{ltb}
 use lib.ListN.{getD}
 use Rattle.meaning.specs.Below.{some}
@@ -15,9 +15,9 @@ unfoldable pub crossed-by : ℕ → ℕ → ℕ → ℕ → Bool
 crossed-by looks truths looks′ truths′ =
     some 64 (λ k. bit truths k && (bit looks′ k && not (bit truths′ k))) || some 64 (λ k. (bit looks k && not (bit truths k)) && bit truths′ k)
 
--- So of transitions i and j, by row 448 + t of the index and row t of what is wanted true.
+-- So of transitions i and j, by row 8 * t + 4 of the index and row t of what is wanted true.
 abbrev pub crossed-at : List ℕ → List ℕ → ℕ → ℕ → Bool
-crossed-at index truths i j = crossed-by (getD index (448 + i) 0) (getD truths i 0) (getD index (448 + j) 0) (getD truths j 0)
+crossed-at index truths i j = crossed-by (getD index (8 * i + 4) 0) (getD truths i 0) (getD index (8 * j + 4) 0) (getD truths j 0)
 
 -- One stands above the other, or conditions keep them apart.
 unfoldable pub settled-by : List ℕ → List ℕ → List ℕ → List ℕ → ℕ → ℕ → Bool

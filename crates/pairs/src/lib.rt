@@ -22,17 +22,22 @@ fn crossed(looks: u64, truths: u64, looks2: u64, truths2: u64) -> bool
 }
 
 // Of those in the row, the ones whose conditions are not against those of i.
-fn left_of(row: u64, index: &[u64; 768], truths: &[u64; 128], i: usize) -> u64
+fn left_of(row: u64, index: &[u64], truths: &[u64], i: usize) -> u64
     requires { ⌜ i < 64 ⌝ }
     ensures { λ r. ⌜ ((j : ℕ) → j < 64 → bit r j ≡ (bit row j && not (crossed-at (now (index .entry)) (now (truths .entry)) i j))) ⌝ }
 {
-    let looks = index[448 + i];
-    let wants = truths[i];
+    let looks = table::line(index, 8 * i + 4);
+    let wants = table::line(truths, i);
     let mut left = row;
     let mut kept: u64 = 0;
     while left != 0 {
         let j = sets::lowest(left);
-        if !crossed(looks, wants, index[448 + j], truths[j]) {
+        if !crossed(
+            looks,
+            wants,
+            table::line(index, 8 * j + 4),
+            table::line(truths, j),
+        ) {
             kept = sets::with(kept, j);
         }
         left = sets::rest(left);
@@ -53,8 +58,8 @@ fn narrow(
     rows: &mut [u64; 64],
     below: &[u64; 64],
     above: &[u64; 64],
-    index: &[u64; 768],
-    truths: &[u64; 128],
+    index: &[u64],
+    truths: &[u64],
     n: usize,
 ) -> bool
     requires { ⌜ (length (now rows) ≡ 64) × Blank-from 64 n (now rows) ⌝ }
@@ -81,9 +86,9 @@ fn narrow(
 }
 
 // Does an inhibitor arc of equal weight tell i and j apart?
-fn apart(t: &[u8], heads: &[u16; 256], next: &[u16; 1024], i: usize, j: usize) -> bool
+fn apart(t: &[u8], heads: &[u16; 256], next: &[u16], i: usize, j: usize) -> bool
     requires { ⌜ Chained (table (now t)) (now heads) (now next) ⌝ }
-    requires { ⌜ (i < 64) × (j < 64) × (table (now t) .records ≤ 1024) ⌝ }
+    requires { ⌜ (i < 64) × (j < 64) × (table (now t) .records ≤ length (now next)) ⌝ }
     ensures { λ r. ⌜ r ≡ (inhibited (table (now (t .entry))) i j || inhibited (table (now (t .entry))) j i) ⌝ }
 {
     if net::inhibits(t, heads, next, i, j) {
@@ -102,10 +107,10 @@ fn row(rows: &[u64; 64], i: usize) -> u64
 
 // 64i + j for the least pair that the rows have left and no inhibitor arc tells apart, 4096 if there is none: for each i the lowest j first. From n
 // on the rows are empty.
-fn least(rows: &[u64; 64], t: &[u8], heads: &[u16; 256], next: &[u16; 1024], n: usize) -> usize
+fn least(rows: &[u64; 64], t: &[u8], heads: &[u16; 256], next: &[u16], n: usize) -> usize
     requires { ⌜ Blank-from 64 n (now rows) ⌝ }
     requires { ⌜ Chained (table (now t)) (now heads) (now next) ⌝ }
-    requires { ⌜ table (now t) .records ≤ 1024 ⌝ }
+    requires { ⌜ table (now t) .records ≤ length (now next) ⌝ }
     ensures { λ r. ⌜ r ≡ first 4096 (left-loose (table (now (t .entry))) (now (rows .entry))) ⌝ }
 {
     let mut found = 4096;
@@ -129,16 +134,16 @@ pub fn clash(
     conflicts: &mut [u64; 64],
     below: &[u64; 64],
     above: &[u64; 64],
-    index: &[u64; 768],
-    truths: &[u64; 128],
+    index: &[u64],
+    truths: &[u64],
     t: &[u8],
     heads: &[u16; 256],
-    next: &[u16; 1024],
+    next: &[u16],
     n: usize,
 ) -> usize
     requires { ⌜ (length (now conflicts) ≡ 64) × Blank-from 64 n (now conflicts) ⌝ }
     requires { ⌜ Chained (table (now t)) (now heads) (now next) ⌝ }
-    requires { ⌜ table (now t) .records ≤ 1024 ⌝ }
+    requires { ⌜ table (now t) .records ≤ length (now next) ⌝ }
     ensures { λ r. ⌜ r ≡ first 4096 (loose (table (now (t .entry))) (now (conflicts .entry)) (now (below .entry)) (now (above .entry)) (now (index .entry)) (now (truths .entry))) ⌝ }
 {
     if narrow(conflicts, below, above, index, truths, n) {

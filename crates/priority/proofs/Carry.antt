@@ -2,7 +2,7 @@
 use mathlib.Core.Bool.{_&&_}
 use mathlib.Core.List.{List}
 use mathlib.Core.Path.{_≡_, refl, sym, _∙_}
-use Prim.Native.Nat.{ℕ, _+_, _<_}
+use Prim.Native.Nat.{ℕ, _+_, _*_, _<_}
 use lib.Dec.{eqb}
 use lib.ListN.{getD}
 use borrow.Author.Tests.{eqb-true, eq-eqb}
@@ -18,11 +18,11 @@ use Rattle.meaning.proofs.Below.{some-intro, some-elim, first-same}
 use Rattle.meaning.proofs.Closure.{closed}
 use Rattle.priority.specs.Closed.{Chain, pair, chain, Closed}
 
--- The index has the table's pairs: bit t of row 512 + u is set exactly if some kind 5 record has u over t.
+-- The index has the table's pairs: bit t of row 8 * u + 5 is set exactly if some kind 5 record has u over t.
 abbrev pub Written : Table → List ℕ → Type 0
 Written tb index =
     (u t : ℕ) → u < 64 → t < 64
-    → bit (getD index (512 + u) 0) t ≡ some (tb .records) (λ r. is tb 5 r && eqb (tb .one r) u && eqb (tb .two r) t)
+    → bit (getD index (8 * u + 5) 0) t ≡ some (tb .records) (λ r. is tb 5 r && eqb (tb .one r) u && eqb (tb .two r) t)
 
 -- The kind 5 records name transitions below 64.
 abbrev pub Low : Table → Type 0

@@ -4,7 +4,7 @@ use mathlib.Core.Bool.{Bool, true, false, _&&_, _||_}
 use mathlib.Core.List.{List}
 use mathlib.Core.Logic.{⊎-elim}
 use mathlib.Core.Path.{_≡_, sym, ap, subst, _∙_}
-use Prim.Native.Nat.{ℕ, zero, suc, _+_, _-_, _≤_, _<_}
+use Prim.Native.Nat.{ℕ, zero, suc, _+_, _*_, _-_, _≤_, _<_}
 use native.Mathlib.Nat.{not-suc-le-zero, add-zero}
 use native.Mathlib.Numerals.{add-one}
 use native.Mathlib.Omega.{arith}
@@ -19,7 +19,7 @@ use Rattle.priority.proofs.Round.{no-bit, emptied}
 
 -- By the first k rounds u stands above t.
 unfoldable pub via : List ℕ → ℕ → ℕ → ℕ → Bool
-via index zero u t = bit (getD index (512 + u) 0) t
+via index zero u t = bit (getD index (8 * u + 5) 0) t
 via index (suc k) u t = via index k u t || (via index k u k && via index k k t)
 
 abbrev Over : List ℕ → ℕ → ℕ → ℕ → Type 0
@@ -54,7 +54,7 @@ sound index (suc k) l u t h i e = go (sound index k (omega arith)) (step index k
     go before (new p q) = chain (before u k h l p) (before k t l i q)
 
 -- What is written stays.
-given : (index : List ℕ) (k u t : ℕ) → bit (getD index (512 + u) 0) t ≡ true → Over index k u t
+given : (index : List ℕ) (k u t : ℕ) → bit (getD index (8 * u + 5) 0) t ≡ true → Over index k u t
 unfolding via
 given index zero u t e = e
 given index (suc k) u t e = back index k u t (old (given index k u t e))
@@ -98,7 +98,7 @@ abbrev pub Rounds : List ℕ → ℕ → List ℕ → Type 0
 Rounds index k rows = (u t : ℕ) → u < 64 → t < 64 → bit (getD rows u 0) t ≡ via index k u t
 
 -- Rows that are copied, and empty where no pair is written, have the written pairs.
-pub copied : {n : ℕ} {index rows : List ℕ} → Pairs-below n index → Bare n rows → ((u : ℕ) → u < n → getD rows u 0 ≡ getD index (512 + u) 0)
+pub copied : {n : ℕ} {index rows : List ℕ} → Pairs-below n index → Bare n rows → ((u : ℕ) → u < n → getD rows u 0 ≡ getD index (8 * u + 5) 0)
     → Rounds index 0 rows
 unfolding via
 copied {n} {index} {rows} p e f u t h i =

@@ -3,13 +3,13 @@ use mathlib.Core.Bool.{true, false, _&&_, _||_}
 use mathlib.Core.List.{List}
 use mathlib.Core.Logic.{_↔_}
 use mathlib.Core.Path.{_≡_}
-use Prim.Native.Nat.{ℕ, _+_, _≤_, _<_}
+use Prim.Native.Nat.{ℕ, _+_, _*_, _≤_, _<_}
 use lib.ListN.{length, getD}
 use Rattle.meaning.specs.Bytes.{bit}
 
 -- u stands above t by a chain of written pairs, all of them transitions below 64.
 pub data Chain (index : List ℕ) : ℕ → ℕ → Type 0 where
-  pair : {u t : ℕ} → u < 64 → t < 64 → bit (getD index (512 + u) 0) t ≡ true → Chain index u t
+  pair : {u t : ℕ} → u < 64 → t < 64 → bit (getD index (8 * u + 5) 0) t ≡ true → Chain index u t
   chain : {u v t : ℕ} → Chain index u v → Chain index v t → Chain index u t
 
 pub record Closed (index rows : List ℕ) : Type 0 where
@@ -18,7 +18,7 @@ pub record Closed (index rows : List ℕ) : Type 0 where
 -- No written pair has a higher transition from n on.
 pub record Pairs-below (n : ℕ) (index : List ℕ) : Type 0 where
   pub most : n ≤ 64
-  pub none : (u t : ℕ) → n ≤ u → u < 64 → t < 64 → bit (getD index (512 + u) 0) t ≡ false
+  pub none : (u t : ℕ) → n ≤ u → u < 64 → t < 64 → bit (getD index (8 * u + 5) 0) t ≡ false
 
 -- The rows from n on are empty.
 pub record Bare (n : ℕ) (rows : List ℕ) : Type 0 where

@@ -2,21 +2,22 @@
 ghost use mathlib.Core.Path.{_≡_};
 ghost use Rattle.meaning.specs.Below.{first};
 ghost use Rattle.meaning.specs.Bytes.{bit};
-ghost use lib.ListN.{getD, replicate};
+ghost use lib.ListN.{length, getD, replicate};
+ghost use Prim.Native.Nat.{_*_, _≤_};
 ghost use Rattle.priority.specs.Closed.{Pairs-below, Closed, Bare, Turned};
 
-// The written pairs, row 512 + u of the index for each higher u, closed in both directions: `below` gets for each transition those it stands
+// The written pairs, row 8 * u + 5 of the index for each higher u, closed in both directions: `below` gets for each transition those it stands
 // above, `above` those that stand above it. In round k whoever stands above k comes to stand above all that k stands above. No pair has a
 // higher u from n on; the rows are lent empty.
-pub fn close(index: &[u64; 768], below: &mut [u64; 64], above: &mut [u64; 64], n: usize)
-    requires { ⌜ Pairs-below n (now index) ⌝ }
+pub fn close(index: &[u64], below: &mut [u64; 64], above: &mut [u64; 64], n: usize)
+    requires { ⌜ Pairs-below n (now index) × (8 * n ≤ length (now index)) ⌝ }
     requires { ⌜ (now below ≡ replicate 64 0) × (now above ≡ replicate 64 0) ⌝ }
     ensures { λ _. ⌜ Closed (now (index .entry)) (now (below .exit)) × Bare n (now (below .exit)) ⌝ }
     ensures { λ _. ⌜ Turned (now (below .exit)) (now (above .exit)) ⌝ }
 {
     let mut i = 0;
     while i < n {
-        let row = index[512 + i];
+        let row = index[8 * i + 5];
         if row != 0 {
             below[i] = row;
             sets::give(above, row, sets::single(i));

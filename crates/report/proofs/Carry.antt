@@ -2,7 +2,7 @@
 use mathlib.Core.Bool.{Bool, true, _&&_, Bool·beq}
 use mathlib.Core.List.{List}
 use mathlib.Core.Path.{_≡_, refl, sym, ap, _∙_}
-use Prim.Native.Nat.{ℕ, _+_, _^_, _<_}
+use Prim.Native.Nat.{ℕ, _+_, _*_, _^_, _<_}
 use native.Mathlib.Omega.{arith}
 use lib.Dec.{ltb, eqb}
 use lib.ListN.{getD}
@@ -19,7 +19,7 @@ use Rattle.meaning.proofs.Faults.{faultless}
 use Rattle.sets.proofs.Bits.{bits-bit, bits-low, same-set}
 use Rattle.table.specs.Index.{row}
 use Rattle.table.proofs.Carry.{Clean}
-use Rattle.table.proofs.Rows.{base, width, kind-of, spot, row-test, within, class-is}
+use Rattle.table.proofs.Rows.{width, kind-of, spot, row-test, within, class-is}
 
 -- Some number below m counts and is byte 1 of a record that passes: some record passes whose byte 1 counts.
 some-swap : (n m : ℕ) (on p q : ℕ → Bool) (f : ℕ → ℕ) → ((r : ℕ) → r < n → p r ≡ true → f r < m)
@@ -62,33 +62,33 @@ module _ {tb : Table} {index : List ℕ} (clean : Clean tb index) where
 
   -- The union of the rows of class c, which is that of kind k, over the numbers that count.
   union-is : (k c y : ℕ) (on : ℕ → Bool) → c < 8 → y < 64 → every 8 (λ a. Bool·beq (eqb a c) (eqb (kind-of a) k)) ≡ true
-      → some (width c) (λ i. on i && bit (getD index (base c + i) 0) y)
+      → some (width c) (λ i. on i && bit (getD index (8 * i + c) 0) y)
       ≡ some (tb .records) (λ r. is tb k r && eqb (tb .two r) y && on (tb .one r))
   unfolding row
   union-is k c y on h l e =
       some-same (width c) _ _ (λ i n. ap (λ (b : Bool). on i && b) (held i n))
       ∙ some-swap (tb .records) (width c) on (is tb k) (λ r. eqb (tb .two r) y) (tb .one) low
     where
-      held : (i : ℕ) → i < width c → bit (getD index (base c + i) 0) y ≡ some (tb .records) (λ r. is tb k r && eqb (tb .one r) i && eqb (tb .two r) y)
+      held : (i : ℕ) → i < width c → bit (getD index (8 * i + c) 0) y ≡ some (tb .records) (λ r. is tb k r && eqb (tb .one r) i && eqb (tb .two r) y)
       held i n =
-          clean .index .holds (base c + i) y (omega (arith, within c h)) l
+          clean .index .holds (8 * i + c) y (omega (arith, within c h)) l
           ∙ some-same (tb .records) _ _
           (λ r m.
           ap (λ (b : Bool). b && eqb (tb .two r) y)
-          (row-test (spot (shown r m)) c i h n ∙ ap (λ (b : Bool). b && eqb (tb .one r) i) (class-is k c e (spot (shown r m)))))
+          (row-test (spot (shown r m)) c i h ∙ ap (λ (b : Bool). b && eqb (tb .one r) i) (class-is k c e (spot (shown r m)))))
 
       low : (r : ℕ) → r < tb .records → is tb k r ≡ true → tb .one r < width c
       low r m q =
           let z = spot (shown r m) in
-          let same : z .class ≡ c = eqb-true (z .class) c (class-is k c e z ∙ q) in
+          let same : z .among ≡ c = eqb-true (z .among) c (class-is k c e z ∙ q) in
           rw same at (z .fits)
 
   -- The actions of the places with a token are the active ones.
-  pub actions-are : (m : ℕ → ℕ) (k : ℕ) → k < 64 → some 128 (λ p. ltb 0 (m p) && bit (getD index (576 + p) 0) k) ≡ active tb m k
+  pub actions-are : (m : ℕ → ℕ) (k : ℕ) → k < 64 → some 128 (λ p. ltb 0 (m p) && bit (getD index (8 * p + 6) 0) k) ≡ active tb m k
   unfolding active every
   actions-are m k h = union-is 6 6 k (λ p. ltb 0 (m p)) (omega arith) h refl
 
   -- The functions of the transitions that fired are the executed ones.
-  pub functions-are : (F : ℕ → Bool) (k : ℕ) → k < 64 → some 64 (λ t. F t && bit (getD index (704 + t) 0) k) ≡ executed tb F k
+  pub functions-are : (F : ℕ → Bool) (k : ℕ) → k < 64 → some 64 (λ t. F t && bit (getD index (8 * t + 7) 0) k) ≡ executed tb F k
   unfolding executed every
   functions-are F k h = union-is 7 7 k F (omega arith) h refl

@@ -3,7 +3,7 @@ use mathlib.Core.Bool.{Bool, true, false, not, _&&_, _||_, Bool·beq, and-false}
 use mathlib.Core.List.{List}
 use mathlib.Core.Path.{_≡_, refl, _∙_}
 use mathlib.Core.Logic.{⊎-elim}
-use Prim.Native.Nat.{ℕ, _+_, _-_, _≤_, _<_}
+use Prim.Native.Nat.{ℕ, _+_, _*_, _-_, _≤_, _<_}
 use native.Mathlib.Omega.{arith}
 use lib.Dec.{ltb, eqb}
 use lib.ListN.{getD}
@@ -51,7 +51,7 @@ module _ (tb : Table) (w s : List (List ℕ)) (index : List ℕ) (x : Inputs) (g
           ≡ (in-words (getD (x .low) t 0) (getD (x .high) t 0) p && by-cell p)
       near p h =
           rw (plain-is curbed p h t ht, in-row tb w s index x gw gs clean gx arcs single t ht p h)
-          (swap (bit (getD index (192 + p) 0) t) (not (eqb (cell s p t) 2)) (ltb 0 (getD taken p 0)) _)
+          (swap (bit (getD index (8 * p + 2) 0) t) (not (eqb (cell s p t) 2)) (ltb 0 (getD taken p 0)) _)
         where
           swap : (a b c d : Bool) → (c && (a && b && d)) ≡ (a && (b && (c && d)))
           swap true true c d = refl

@@ -1,5 +1,5 @@
 -- The marked places are tended eight by eight. In the end the rows of every place span its new tokens, and it is told whom the places starve.
-use mathlib.Core.Bool.{Bool, true, false, not, _&&_, _||_, and-false, or-false}
+use mathlib.Core.Bool.{Bool, true, false, _&&_, _||_, and-false, or-false}
 use mathlib.Core.List.{List}
 use mathlib.Core.Path.{_≡_, refl, sym, ap, _∙_}
 use Prim.Native.Nat.{ℕ, _+_, _-_, _*_, _/_, _≤_, _<_}
@@ -13,7 +13,7 @@ use Rattle.meaning.proofs.Bool.{not-both, and-left, or-false-left, or-false-rig
 use Rattle.meaning.proofs.Below.{some-same}
 use Rattle.table.proofs.Carry.{some-or}
 use Rattle.net.specs.Rows.{cell}
-use Rattle.enabled.specs.Held.{Curbed, plain, Levels}
+use Rattle.enabled.specs.Held.{Curbed, plain, Levels, Wanting}
 use Rattle.settle.specs.Settle.{Still, Swept, Marked, marked-of, fallen, Tended, Lacks, Starves}
 use Rattle.settle.proofs.Swept.{rest-low}
 use Rattle.settle.proofs.Tended.{spans-still, spans-plain}
@@ -93,18 +93,18 @@ module _ (eights : ℕ) {m taken put m′ left taken′ put′ marks index curbs
           let o = tended .others p z in
           rw (o .2, o .3) (unmarked p h z)
 
-  module _ (still : Still (8 * eights) taken put) (curbed : Curbed index s curbs) where
+  module _ {lacks : List ℕ} (still : Still (8 * eights) taken put) (curbed : Curbed index s curbs) (wanting : Wanting held curbs lacks) where
     -- Whom one place starves: with its rest on the level that it had, those that lacked tokens before; else whom its rest starves, and those are among them.
     starves-here : (t : ℕ) → t < 64 → (p : ℕ) → p < 128
-        → ((ltb 0 (getD taken p 0) && (bit (getD held p 0) t && not (bit (getD curbs p 0) t))) || (marked-to marks eights p && fallen index curbs w left from t p))
+        → ((ltb 0 (getD taken p 0) && bit (getD lacks p 0) t) || (marked-to marks eights p && fallen index curbs w left from t p))
         ≡ (ltb 0 (getD taken p 0) && short index curbs w t p (getD m p 0 - getD taken p 0))
     starves-here t l p h = go (ltb p (8 * eights)) (ltb 0 (getD taken p 0)) (ltb (getD left p 0) (getD from p 0)) refl refl refl
       where
         lacking : Bool
-        lacking = bit (getD held p 0) t && not (bit (getD curbs p 0) t)
+        lacking = bit (getD lacks p 0) t
 
         lacking-is : (k : ℕ) → getD from p 0 ≤ k → k < getD upto p 0 → lacking ≡ short index curbs w t p k
-        lacking-is k low high = spans-plain curbed (levels .spans p h) h k low high t l
+        lacking-is k low high = spans-plain curbed wanting (levels .spans p h) h k low high t l
 
         go : (a b c : Bool) → ltb p (8 * eights) ≡ a → ltb 0 (getD taken p 0) ≡ b → ltb (getD left p 0) (getD from p 0) ≡ c
             → ((b && lacking) || (marked-to marks eights p && (c && short index curbs w t p (getD left p 0))))
@@ -130,10 +130,10 @@ module _ (eights : ℕ) {m taken put m′ left taken′ put′ marks index curbs
             ∙ lacking-is (getD m p 0 - getD taken p 0) (omega arith) (omega (arith, levels .inside p h .1))
 
     -- Whom all places starve.
-    pub starves-after : Lacks taken held curbs lack → Starves m taken index curbs w r
-    starves-after lacks =
+    pub starves-after : Lacks taken lacks lack → Starves m taken index curbs w r
+    starves-after before =
         record {
           holds = λ t l.
-              tended .starves t l ∙ ap (λ (b : Bool). b || some 128 (λ p. marked-to marks eights p && fallen index curbs w left from t p)) (lacks .holds t l)
+              tended .starves t l ∙ ap (λ (b : Bool). b || some 128 (λ p. marked-to marks eights p && fallen index curbs w left from t p)) (before .holds t l)
               ∙ some-or 128 _ _ ∙ some-same 128 _ _ (starves-here t l);
         }

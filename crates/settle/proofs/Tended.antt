@@ -12,7 +12,7 @@ use Rattle.meaning.proofs.Bool.{not-both, and-left, and-right, or-false-left, o
 use Rattle.meaning.proofs.Below.{some-intro, some-elim, none-intro, some-same}
 use Rattle.table.proofs.Carry.{some-or}
 use Rattle.net.specs.Rows.{cell}
-use Rattle.enabled.specs.Held.{Curbed, plain, Spans, Four, Moves-to}
+use Rattle.enabled.specs.Held.{Curbed, plain, Spans, Four, Moves-to, Wanting}
 use Rattle.enabled.proofs.Held.{plain-held}
 use Rattle.settle.specs.Settle.{fallen, Tended}
 
@@ -25,12 +25,12 @@ some-at n p f h = same-test _ _ there (λ e. some-intro n _ p h (rw (eq-eqb p p 
         let k = some-elim n _ e in
         ap f (eqb-true p (k .0) (and-left (eqb p (k .0)) (f (k .0)) (k .2))) ∙ and-right (eqb p (k .0)) (f (k .0)) (k .2)
 
--- Of those without an inhibitor arc, a place holds back whoever is short with any number of tokens that its rows span.
-pub spans-plain : {index curbs : List ℕ} {w s : List (List ℕ)} {p held shown from upto : ℕ} → Curbed index s curbs → Spans index w s p held shown from upto
-    → p < 128 → (k : ℕ) → from ≤ k → k < upto → (t : ℕ) → t < 64
-    → (bit held t && not (bit (getD curbs p 0) t)) ≡ (plain index curbs p t && ltb k (cell w p t))
-spans-plain {index} {curbs} {w} {s} {p} curbed spans h k low high t l =
-    ap (λ (x : ℕ). bit x t && not (bit (getD curbs p 0) t)) (spans .holds k low high) ∙ plain-held curbed p h w k t l
+-- Who lacks tokens at a place is whoever is short with any number of tokens that its rows span.
+pub spans-plain : {index curbs held lacks : List ℕ} {w s : List (List ℕ)} {p shown from upto : ℕ} → Curbed index s curbs → Wanting held curbs lacks
+    → Spans index w s p (getD held p 0) shown from upto → p < 128 → (k : ℕ) → from ≤ k → k < upto → (t : ℕ) → t < 64
+    → bit (getD lacks p 0) t ≡ (plain index curbs p t && ltb k (cell w p t))
+spans-plain {index} {curbs} {held} {lacks} {w} {s} {p} curbed wanting spans h k low high t l =
+    wanting .same p t h l ∙ ap (λ (x : ℕ). bit x t && not (bit (getD curbs p 0) t)) (spans .holds k low high) ∙ plain-held curbed p h w k t l
 
 module _ (index curbs : List ℕ) (w s : List (List ℕ)) (m left : List ℕ) where
   -- So far no place is done.

@@ -1,5 +1,5 @@
 -- The marking after a step, place by place, and whom the places starve.
-use mathlib.Core.Bool.{Bool, true, false, cond, not, _&&_, _||_}
+use mathlib.Core.Bool.{Bool, true, false, cond, _&&_, _||_}
 use mathlib.Core.List.{List}
 use mathlib.Core.Path.{_≡_}
 use Prim.Native.Nat.{ℕ, _+_, _-_, _*_, _/_, _≤_, _<_}
@@ -70,10 +70,9 @@ pub record Tended (done : ℕ → Bool) (index curbs : List ℕ) (w s : List (Li
       → (getD held′ p 0 ≡ getD held p 0) × (getD shown′ p 0 ≡ getD shown p 0) × (getD from′ p 0 ≡ getD from p 0) × (getD upto′ p 0 ≡ getD upto p 0)
   pub starves : (t : ℕ) → t < 64 → bit r t ≡ (bit all t || some 128 (λ p. done p && fallen index curbs w left from t p))
 
--- The set has those that a place from which something is taken holds back without an inhibitor arc.
-pub record Lacks (taken held curbs : List ℕ) (lack : ℕ) : Type 0 where
-  pub holds : (t : ℕ) → t < 64
-      → bit lack t ≡ some 128 (λ p. ltb 0 (getD taken p 0) && (bit (getD held p 0) t && not (bit (getD curbs p 0) t)))
+-- The set has those that lack tokens at a place from which something is taken.
+pub record Lacks (taken lacks : List ℕ) (lack : ℕ) : Type 0 where
+  pub holds : (t : ℕ) → t < 64 → bit lack t ≡ some 128 (λ p. ltb 0 (getD taken p 0) && bit (getD lacks p 0) t)
 
 -- Each place has its new tokens, and nothing is taken or put any more.
 pub record Settled (m taken put m′ taken′ put′ : List ℕ) : Type 0 where

@@ -1,6 +1,6 @@
 // The marking after a step: each place loses the tokens taken and gains the tokens put, all places in one sweep. What is kept of a place moves with its
 // tokens where they left their level, and whom the places starve is told.
-ghost use mathlib.Core.Bool.{true, not, cond, _&&_, _||_};
+ghost use mathlib.Core.Bool.{true, cond, _&&_, _||_};
 ghost use mathlib.Core.Path.{_≡_};
 ghost use Prim.Native.Nat.{ℕ, _+_, _-_, _*_, _≤_, _<_};
 ghost use lib.Dec.{leb, ltb};
@@ -8,7 +8,7 @@ ghost use lib.ListN.{length, getD};
 ghost use Rattle.meaning.specs.Below.{first};
 ghost use Rattle.meaning.specs.Bytes.{bit};
 ghost use Rattle.net.specs.Rows.{cell};
-ghost use Rattle.enabled.specs.Held.{Weighty, Curbed, plain, Four, Spans, Moves-to, Levels};
+ghost use Rattle.enabled.specs.Held.{Weighty, Curbed, plain, Four, Spans, Moves-to, Levels, Wanting};
 ghost use Rattle.settle.specs.Settle.{new-at, Low, Paid, Still, Crowded, Swept, Marked, Eight, marked-of, Tended, Lacks, Settled, Starves};
 
 // The new tokens of one place.
@@ -100,27 +100,26 @@ fn eight(marks: &[u8; 128], e: usize) -> u64
 }
 
 // All, and of those with a basic or test arc from place p whom its rest starves. The rest is at most what the rows of the place span: from the first
-// number of their level on, that is whom they hold back; below it the arcs are asked.
+// number of their level on, that is who lacks tokens there; below it the arcs are asked.
 fn starved(
     all: u64,
     rest: u32,
     p: usize,
-    held: &[u64; 128],
+    lacks: &[u64; 128],
     from: &[u32; 128],
-    index: &[u64; 768],
+    index: &[u64],
     curbs: &[u64; 128],
-    w: &[[u16; 64]; 128],
+    w: &[[u16; 64]],
 ) -> u64
-    requires { ⌜ (p < 128) × (rest ≤ 65535) ⌝ }
+    requires { ⌜ (p < 128) × (rest ≤ 65535) × (p < length (now w)) × (8 * p + 8 ≤ length (now index)) ⌝ }
     requires { ⌜ ((t : ℕ) → t < 64 → plain (now index) (now curbs) p t ≡ true → 1 ≤ cell (now w) p t) ⌝ }
-    requires { ⌜ (getD (now from) p 0 ≤ rest → (t : ℕ) → t < 64 → (bit (getD (now held) p 0) t && not (bit (getD (now curbs) p 0) t)) ≡ (plain (now index) (now curbs) p t && ltb rest (cell (now w) p t))) ⌝ }
+    requires { ⌜ (getD (now from) p 0 ≤ rest → (t : ℕ) → t < 64 → bit (getD (now lacks) p 0) t ≡ (plain (now index) (now curbs) p t && ltb rest (cell (now w) p t))) ⌝ }
     ensures { λ r. ⌜ ((t : ℕ) → t < 64 → bit r t ≡ (bit all t || (plain (now (index .entry)) (now (curbs .entry)) p t && ltb rest (cell (now (w .entry)) p t)))) ⌝ }
 {
-    let curbs_here = curbs[p];
     if from[p] <= rest {
-        return sets::union(all, sets::less(held[p], curbs_here));
+        return sets::union(all, lacks[p]);
     }
-    let plain_here = sets::less(index[192 + p], curbs_here);
+    let plain_here = sets::less(index[8 * p + 2], curbs[p]);
     let x = enabled::level_of(rest, plain_here, &w[p]);
     sets::union(all, x.short)
 }
@@ -133,25 +132,28 @@ fn tend(
     new: u32,
     all: u64,
     held: &mut [u64; 128],
+    lacks: &mut [u64; 128],
     shown: &mut [u64; 128],
     from: &mut [u32; 128],
     upto: &mut [u32; 128],
-    index: &[u64; 768],
+    index: &[u64],
     curbs: &[u64; 128],
-    w: &[[u16; 64]; 128],
-    s: &[[u8; 64]; 128],
+    w: &[[u16; 64]],
+    s: &[[u8; 64]],
 ) -> u64
     requires { ⌜ (p < 128) × (rest ≤ 65535) × (rest ≤ new) × (new < 2147483647) ⌝ }
-    requires { ⌜ Curbed (now index) (now s) (now curbs) × Weighty (now index) (now w) ⌝ }
+    requires { ⌜ Curbed (now index) (now s) (now curbs) × Weighty (now index) (now w) × (p < length (now w)) × (8 * p + 8 ≤ length (now index)) ⌝ }
     requires { ⌜ Four (now held) (now shown) (now from) (now upto) ⌝ }
     requires { ⌜ Spans (now index) (now w) (now s) p (getD (now held) p 0) (getD (now shown) p 0) (getD (now from) p 0) (getD (now upto) p 0) ⌝ }
+    requires { ⌜ Wanting (now held) (now curbs) (now lacks) ⌝ }
     ensures { λ r. ⌜ ((t : ℕ) → t < 64 → bit r t ≡ (bit all t || (ltb rest (getD (now (from .entry)) p 0) && (plain (now (index .entry)) (now (curbs .entry)) p t && ltb rest (cell (now (w .entry)) p t))))) ⌝ }
     ensures { λ _. ⌜ Moves-to (now (index .entry)) (now (w .entry)) (now (s .entry)) p new (now (held .entry)) (now (shown .entry)) (now (from .entry)) (now (upto .entry)) (now (held .exit)) (now (shown .exit)) (now (from .exit)) (now (upto .exit)) ⌝ }
+    ensures { λ _. ⌜ Wanting (now (held .exit)) (now (curbs .entry)) (now (lacks .exit)) ⌝ }
 {
     let fell = rest < from[p];
-    enabled::shift(p, new, index, curbs, w, s, held, shown, from, upto);
+    enabled::shift(p, new, index, curbs, w, s, held, lacks, shown, from, upto);
     if fell {
-        return starved(all, rest, p, held, from, index, curbs, w);
+        return starved(all, rest, p, lacks, from, index, curbs, w);
     }
     all
 }
@@ -165,20 +167,23 @@ fn tend_eight(
     left: &[u32; 128],
     marks: &[u8; 128],
     held: &mut [u64; 128],
+    lacks: &mut [u64; 128],
     shown: &mut [u64; 128],
     from: &mut [u32; 128],
     upto: &mut [u32; 128],
-    index: &[u64; 768],
+    index: &[u64],
     curbs: &[u64; 128],
-    w: &[[u16; 64]; 128],
-    s: &[[u8; 64]; 128],
+    w: &[[u16; 64]],
+    s: &[[u8; 64]],
 ) -> u64
     requires { ⌜ (e < 16) × ((p : ℕ) → p < 8 * e + 8 → getD (now marks) p 0 ≤ 1) ⌝ }
     requires { ⌜ ((p : ℕ) → p < 8 * e + 8 → (getD (now left) p 0 ≤ 65535) × (getD (now left) p 0 ≤ getD (now m) p 0) × (getD (now m) p 0 < 2147483647)) ⌝ }
-    requires { ⌜ Curbed (now index) (now s) (now curbs) × Weighty (now index) (now w) ⌝ }
+    requires { ⌜ Curbed (now index) (now s) (now curbs) × Weighty (now index) (now w) × (8 * e + 8 ≤ length (now w)) × (8 * (8 * e + 8) ≤ length (now index)) ⌝ }
     requires { ⌜ Four (now held) (now shown) (now from) (now upto) ⌝ }
     requires { ⌜ ((p : ℕ) → p < 128 → Spans (now index) (now w) (now s) p (getD (now held) p 0) (getD (now shown) p 0) (getD (now from) p 0) (getD (now upto) p 0)) ⌝ }
+    requires { ⌜ Wanting (now held) (now curbs) (now lacks) ⌝ }
     ensures { λ r. ⌜ Tended (marked-of (now (marks .entry)) e) (now (index .entry)) (now (curbs .entry)) (now (w .entry)) (now (s .entry)) (now (m .entry)) (now (left .entry)) all (now (held .entry)) (now (shown .entry)) (now (from .entry)) (now (upto .entry)) r (now (held .exit)) (now (shown .exit)) (now (from .exit)) (now (upto .exit)) ⌝ }
+    ensures { λ _. ⌜ Wanting (now (held .exit)) (now (curbs .entry)) (now (lacks .exit)) ⌝ }
 {
     let mut more = all;
     let mut word = eight(marks, e);
@@ -191,6 +196,7 @@ fn tend_eight(
             m[p],
             more,
             held,
+            lacks,
             shown,
             from,
             upto,
@@ -205,11 +211,12 @@ fn tend_eight(
 
 // The new tokens of every place: less what is taken there, and with what is put. What is taken and put is then done with, and what is kept of each place
 // spans its new tokens. The answer is whom the places starve: those that lacked tokens, before anything was taken, at a place from which something is
-// taken, and those that the rest of a place starves where it is below the place's level. From place 8 × eights on nothing is taken or put; `left` and
-// `marks` are lent to work with.
+// taken, and those that the rest of a place starves where it is below the place's level. From place 8 × eights on nothing is taken or put, and
+// neither w nor the index need have a row; `left` and `marks` are lent to work with.
 pub fn settle(
     m: &mut [u32; 128],
     held: &mut [u64; 128],
+    lacks: &mut [u64; 128],
     shown: &mut [u64; 128],
     from: &mut [u32; 128],
     upto: &mut [u32; 128],
@@ -219,21 +226,23 @@ pub fn settle(
     marks: &mut [u8; 128],
     lack: u64,
     eights: usize,
-    index: &[u64; 768],
+    index: &[u64],
     curbs: &[u64; 128],
-    w: &[[u16; 64]; 128],
-    s: &[[u8; 64]; 128],
+    w: &[[u16; 64]],
+    s: &[[u8; 64]],
 ) -> u64
     requires { ⌜ (8 * eights ≤ 128) × Low (now m) (now put) × Paid (now m) (now taken) ⌝ }
     requires { ⌜ Still (8 * eights) (now taken) (now put) ⌝ }
     requires { ⌜ (length (now m) ≡ 128) × (length (now taken) ≡ 128) × (length (now put) ≡ 128) × (length (now left) ≡ 128) × (length (now marks) ≡ 128) ⌝ }
-    requires { ⌜ Curbed (now index) (now s) (now curbs) × Weighty (now index) (now w) ⌝ }
+    requires { ⌜ Curbed (now index) (now s) (now curbs) × Weighty (now index) (now w) × (8 * eights ≤ length (now w)) × (8 * (8 * eights) ≤ length (now index)) ⌝ }
     requires { ⌜ Levels (now index) (now w) (now s) (now m) (now held) (now shown) (now from) (now upto) ⌝ }
-    requires { ⌜ Lacks (now taken) (now held) (now curbs) lack ⌝ }
+    requires { ⌜ Lacks (now taken) (now lacks) lack ⌝ }
+    requires { ⌜ Wanting (now held) (now curbs) (now lacks) ⌝ }
     ensures { λ r. ⌜ Starves (now (m .entry)) (now (taken .entry)) (now (index .entry)) (now (curbs .entry)) (now (w .entry)) r ⌝ }
     ensures { λ _. ⌜ Settled (now (m .entry)) (now (taken .entry)) (now (put .entry)) (now (m .exit)) (now (taken .exit)) (now (put .exit)) ⌝ }
     ensures { λ _. ⌜ Levels (now (index .entry)) (now (w .entry)) (now (s .entry)) (now (m .exit)) (now (held .exit)) (now (shown .exit)) (now (from .exit)) (now (upto .exit)) ⌝ }
     ensures { λ _. ⌜ (length (now (left .exit)) ≡ 128) × (length (now (marks .exit)) ≡ 128) ⌝ }
+    ensures { λ _. ⌜ Wanting (now (held .exit)) (now (curbs .entry)) (now (lacks .exit)) ⌝ }
 {
     sweep(m, left, marks, taken, put, from, upto, 8 * eights);
     let mut all = lack;
@@ -246,6 +255,7 @@ pub fn settle(
             left,
             marks,
             held,
+            lacks,
             shown,
             from,
             upto,

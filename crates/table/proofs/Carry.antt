@@ -2,8 +2,8 @@
 use mathlib.Core.Bool.{Bool, true, false, not, _&&_, _||_, Bool·beq}
 use mathlib.Core.List.{List}
 use mathlib.Core.Path.{_≡_, refl, sym, ap, ap₂, _∙_}
-use Prim.Native.Nat.{ℕ, zero, suc, _+_, _-_, _<_}
-use native.Mathlib.Nat.{zero-add}
+use Prim.Native.Nat.{ℕ, zero, suc, _+_, _*_, _-_, _<_}
+use native.Mathlib.Nat.{add-zero}
 use native.Mathlib.Omega.{arith}
 use lib.Dec.{eqb, ltb}
 use lib.ListN.{getD}
@@ -21,7 +21,7 @@ use Rattle.meaning.proofs.Faults.{faultless}
 use Rattle.table.specs.declared.Pass.{Pass}
 pub use Rattle.table.specs.Index.{Clean}
 use Rattle.table.specs.Index.{row, Scanned, has-place, has-transition, unknown-test, names-unknown-at, none-of, lone}
-use Rattle.table.proofs.Rows.{base, width, kind-of, Spot, spot, one-low, two-low, row-test, within, beq-true, class-is}
+use Rattle.table.proofs.Rows.{width, kind-of, Spot, spot, one-low, two-low, row-test, within, beq-true, class-is}
 use Rattle.table.proofs.Firsts.{arc-bit}
 
 -- ON TESTS
@@ -82,11 +82,11 @@ swap true false false = refl
 -- ON RECORDS THAT THE PAGE SHOWS
 
 -- An arc is an input arc, which is of class 2, or a post arc.
-pub input-is : {j o s : ℕ} (z : Spot j o s) → eqb (z .class) 2 ≡ (eqb j 3 && not (eqb j 3 && eqb s 3))
+pub input-is : {j o s : ℕ} (z : Spot j o s) → eqb (z .among) 2 ≡ (eqb j 3 && not (eqb j 3 && eqb s 3))
 unfolding every
 input-is z =
     rw (z .post-is, z .kind-is)
-    (beq-true _ _ (every-elim 8 (λ c. Bool·beq (eqb c 2) (eqb (kind-of c) 3 && not (eqb c 3))) refl (z .class) (z .low)))
+    (beq-true _ _ (every-elim 8 (λ c. Bool·beq (eqb c 2) (eqb (kind-of c) 3 && not (eqb c 3))) refl (z .among) (z .low)))
 
 either-arc : (k s : Bool) → ((k && not (k && s)) || (k && s)) ≡ k
 either-arc true true = refl
@@ -132,12 +132,12 @@ module _ {tb : Table} {rows : List ℕ} (clean : Clean tb rows) where
 
   -- Bit y of row i of class c is some record of class c with its bytes 1 and 2 at i and y.
   held : (c i y : ℕ) (t : ℕ → Bool) → c < 8 → i < width c → y < 64
-      → ((r : ℕ) (h : r < tb .records) → (eqb (spot (shown r h) .class) c && eqb (tb .one r) i && eqb (tb .two r) y) ≡ t r)
-      → bit (getD rows (base c + i) 0) y ≡ some (tb .records) t
+      → ((r : ℕ) (h : r < tb .records) → (eqb (spot (shown r h) .among) c && eqb (tb .one r) i && eqb (tb .two r) y) ≡ t r)
+      → bit (getD rows (8 * i + c) 0) y ≡ some (tb .records) t
   unfolding row
   held c i y t h l n f =
-      clean .index .holds (base c + i) y (omega (arith, within c h)) n
-      ∙ some-same (tb .records) _ t (λ r k. ap (λ (b : Bool). b && eqb (tb .two r) y) (row-test (spot (shown r k)) c i h l) ∙ f r k)
+      clean .index .holds (8 * i + c) y (omega (arith, within c h)) n
+      ∙ some-same (tb .records) _ t (λ r k. ap (λ (b : Bool). b && eqb (tb .two r) y) (row-test (spot (shown r k)) c i h) ∙ f r k)
 
   -- A place and a transition have their byte 2 at 0.
   declares : (k i : ℕ) (r : ℕ) → (tb .kind r ≡ k → tb .two r ≡ 0)
@@ -151,7 +151,7 @@ module _ {tb : Table} {rows : List ℕ} (clean : Clean tb rows) where
   pub place-bit : (p : ℕ) → p < 128 → has-place rows p ≡ place tb p
   unfolding place every
   place-bit p h =
-      ap (λ (q : ℕ). has-place rows q) (sym (zero-add p))
+      ap (λ (q : ℕ). bit (getD rows q 0) 0) (sym (add-zero (8 * p)))
       ∙ held 0 p 0 _ (omega arith) h (omega arith)
       (λ r l. rw (class-is 1 0 refl (spot (shown r l))) (declares 1 p r (λ e. shown-place (of-kind tb r 1 (shown r l) e) .1)))
 
@@ -163,11 +163,11 @@ module _ {tb : Table} {rows : List ℕ} (clean : Clean tb rows) where
 
   -- The priorities that are written.
   pub written-bit : (u t : ℕ) → u < 64 → t < 64
-      → bit (getD rows (512 + u) 0) t ≡ some (tb .records) (λ r. is tb 5 r && eqb (tb .one r) u && eqb (tb .two r) t)
+      → bit (getD rows (8 * u + 5) 0) t ≡ some (tb .records) (λ r. is tb 5 r && eqb (tb .one r) u && eqb (tb .two r) t)
   unfolding every
   written-bit u t h l = held 5 u t _ (omega arith) h l (λ r k. rw (class-is 5 5 refl (spot (shown r k))))
 
-  -- The arcs, of either block.
+  -- The arcs, of either class.
   pub arcs-bit : (p t : ℕ) → p < 128 → t < 64
       → arc-bit rows p t ≡ some (tb .records) (λ r. is tb 3 r && eqb (tb .one r) p && eqb (tb .two r) t)
   arcs-bit p t h l =

@@ -3,8 +3,8 @@ use mathlib.Core.Bool.{Bool, true, false, cond, not, _&&_, _||_}
 use mathlib.Core.List.{List}
 use mathlib.Core.Logic.{⊎-elim}
 use mathlib.Core.Path.{_≡_, refl, sym, ap, _∙_}
-use Prim.Native.Nat.{ℕ, _+_, _-_, _^_, _≤_, _<_}
-use native.Mathlib.Nat.{zero-add, eq-or-lt-of-le}
+use Prim.Native.Nat.{ℕ, _+_, _*_, _-_, _^_, _≤_, _<_}
+use native.Mathlib.Nat.{add-zero, eq-or-lt-of-le}
 use native.Mathlib.Numerals.{add-one}
 use native.Mathlib.Omega.{arith}
 use lib.Dec.{eqb, ltb}
@@ -18,7 +18,7 @@ use Rattle.meaning.proofs.Below.{last, some-intro, some-elim, some-same, first-
 use Rattle.sets.proofs.Bits.{zero-set}
 use Rattle.records.specs.declared.Rec.{Rec}
 use Rattle.records.specs.Record.{Reads}
-use Rattle.table.specs.Index.{Reaches, transitions-below, has-transition, unknown-test, names-unknown, names-unknown-at, none-of, lone}
+use Rattle.table.specs.Index.{Reaches, transitions-below, has-place, has-transition, unknown-test, names-unknown, names-unknown-at, none-of, lone}
 pub use Rattle.table.specs.Index.{arc-bit}
 
 -- What holds below i and at i holds below i + 1, where a test fails.
@@ -50,7 +50,14 @@ past-transitions n i = go (ltb n 64) refl
     go true e h l = h
     go false e h l = absurd (omega arith)
 
--- There are no more than 64.
+-- There are no more than n, and no more than 64.
+pub no-more-transitions : (n : ℕ) → transitions-below n ≤ n
+no-more-transitions n = go (ltb n 64) refl
+  where
+    go : (b : Bool) → ltb n 64 ≡ b → cond b n 64 ≤ n
+    go true e = omega arith
+    go false e = ltb-false n 64 e
+
 pub few-transitions : (n : ℕ) → transitions-below n ≤ 64
 few-transitions n = go (ltb n 64) refl
   where
@@ -80,23 +87,23 @@ drop-last false = refl
 
 -- Kind by kind, with byte 1 counted as o and byte 2 as t.
 module _ (rows : List ℕ) (x : Rec) {o t : ℕ} (o-is : o ≡ x .one) (t-is : t ≡ x .two) where
-  pub arc-names : (a b : Bool) → a ≡ absent rows o → b ≡ absent rows (128 + t) → x .kind ≡ 3 → (a || b) ≡ names-unknown rows x
+  pub arc-names : (a b : Bool) → a ≡ absent rows (8 * o) → b ≡ absent rows (8 * t + 1) → x .kind ≡ 3 → (a || b) ≡ names-unknown rows x
   unfolding names-unknown unknown-test
-  arc-names a b p q e = rw (p, q, o-is, t-is, e) (drop-middle (not (bit (getD rows (x .one) 0) 0)) (not (has-transition rows (x .two))))
+  arc-names a b p q e = rw (p, q, o-is, t-is, e) (drop-middle (not (has-place rows (x .one))) (not (has-transition rows (x .two))))
 
-  pub condition-names : (a : Bool) → a ≡ absent rows (128 + o) → x .kind ≡ 4 → a ≡ names-unknown rows x
+  pub condition-names : (a : Bool) → a ≡ absent rows (8 * o + 1) → x .kind ≡ 4 → a ≡ names-unknown rows x
   unfolding names-unknown unknown-test
   condition-names a p e = rw (p, o-is, e) (drop-last _)
 
-  pub priority-names : (a b : Bool) → a ≡ absent rows (128 + o) → b ≡ absent rows (128 + t) → x .kind ≡ 5 → (a || b) ≡ names-unknown rows x
+  pub priority-names : (a b : Bool) → a ≡ absent rows (8 * o + 1) → b ≡ absent rows (8 * t + 1) → x .kind ≡ 5 → (a || b) ≡ names-unknown rows x
   unfolding names-unknown unknown-test
   priority-names a b p q e = rw (p, q, o-is, t-is, e)
 
-  pub action-names : (a : Bool) → a ≡ absent rows o → x .kind ≡ 6 → a ≡ names-unknown rows x
+  pub action-names : (a : Bool) → a ≡ absent rows (8 * o) → x .kind ≡ 6 → a ≡ names-unknown rows x
   unfolding names-unknown unknown-test
   action-names a p e = rw (p, o-is, e) (drop-last _ ∙ drop-last _)
 
-  pub function-names : (a : Bool) → a ≡ absent rows (128 + o) → x .kind ≡ 7 → a ≡ names-unknown rows x
+  pub function-names : (a : Bool) → a ≡ absent rows (8 * o + 1) → x .kind ≡ 7 → a ≡ names-unknown rows x
   unfolding names-unknown unknown-test
   function-names a p e = rw (p, o-is, e) (drop-last _)
 
@@ -104,7 +111,7 @@ module _ (rows : List ℕ) (x : Rec) {o t : ℕ} (o-is : o ≡ x .one) (t-is : t
 
 -- No place comes before no transition.
 pub none-first : (rows : List ℕ) (n m : ℕ) → Reaches rows n → m ≡ transitions-below n → (a b : Bool)
-    → a ≡ not (some n (λ i. bit (getD rows (0 + i) 0) 0)) → b ≡ not (some m (λ i. bit (getD rows (128 + i) 0) 0))
+    → a ≡ not (some n (λ i. bit (getD rows (8 * i + 0) 0) 0)) → b ≡ not (some m (λ i. bit (getD rows (8 * i + 1) 0) 0))
     → cond a 0 (cond b 1 2) ≡ first 2 (none-of rows)
 unfolding none-of
 none-first rows n m reach few a b p q =
@@ -112,7 +119,7 @@ none-first rows n m reach few a b p q =
     (p
     ∙ ap not
     (some-short n 128 _ (reach .most) (λ i h l. reach .no-row 0 i 0 (omega arith) h l (omega arith))
-    ∙ some-same 128 _ _ (λ i h. ap (λ (n : ℕ). bit (getD rows n 0) 0) (zero-add i))))
+    ∙ some-same 128 _ _ (λ i h. ap (λ (n : ℕ). bit (getD rows n 0) 0) (add-zero (8 * i)))))
     (q
     ∙ ap not
     (some-short m 64 _ (omega (arith, few, few-transitions n))
@@ -128,10 +135,10 @@ none-first rows n m reach few a b p q =
 
 -- A place is alone if its row has its bit and the two rows of its arcs are empty.
 pub lone-place : (rows : List ℕ) (p arcs : ℕ) → p < 128 → arcs < 2 ^ 64 → ((t : ℕ) → bit arcs t ≡ arc-bit rows p t)
-    → (bit (getD rows p 0) 0 && eqb arcs 0) ≡ lone rows p
+    → (has-place rows p && eqb arcs 0) ≡ lone rows p
 unfolding lone
 lone-place rows p arcs h l e =
-    rw (lt-ltb p 128 h, zero-set arcs l) (ap (λ (b : Bool). bit (getD rows p 0) 0 && not b) (some-same 64 _ _ (λ t _. e t)))
+    rw (lt-ltb p 128 h, zero-set arcs l) (ap (λ (b : Bool). has-place rows p && not b) (some-same 64 _ _ (λ t _. e t)))
 
 -- One place more: its arcs join those gathered.
 pub more-arcs : (rows : List ℕ) (p t all arcs joined : ℕ) → bit all t ≡ some p (λ p. arc-bit rows p t) → bit arcs t ≡ arc-bit rows p t
@@ -190,7 +197,7 @@ lone-first rows n p all reach e f g =
     let whole : (t : ℕ) → t < 64 → bit all t ≡ some 128 (λ p. arc-bit rows p t) =
     λ t h. g t ∙ ap (λ (n : ℕ). some n (λ p. arc-bit rows p t)) e ∙ all-arcs rows n t reach h in
     let none : (k : ℕ) → n ≤ k → k < 128 → lone rows k ≡ false =
-    λ k l m. rw (lt-ltb k 128 m, ap (λ (q : ℕ). bit (getD rows q 0) 0) (sym (zero-add k)) ∙ reach .no-row 0 k 0 (omega arith) l m (omega arith)) in
+    λ k l m. rw (lt-ltb k 128 m, ap (λ (q : ℕ). bit (getD rows q 0) 0) (sym (add-zero (8 * k))) ∙ reach .no-row 0 k 0 (omega arith) l m (omega arith)) in
     ap (λ (n : ℕ). 128 + n) (first-same 64 _ _ (λ t h. lone-transition rows t all (whole t h)))
     ∙ first-after 128 64 (lone rows)
     (λ k h.

@@ -3,8 +3,8 @@ use mathlib.Core.Bool.{Bool, true, false, cond, not, _&&_, _||_, and-false, or-f
 use mathlib.Core.List.{List}
 use mathlib.Core.Logic.{⊎-elim}
 use mathlib.Core.Path.{_≡_, refl, sym, ap, _∙_}
-use Prim.Native.Nat.{ℕ, _+_, _-_, _^_, _≤_, _<_}
-use native.Mathlib.Nat.{not-suc-le-zero, zero-add}
+use Prim.Native.Nat.{ℕ, _+_, _*_, _-_, _^_, _≤_, _<_}
+use native.Mathlib.Nat.{not-suc-le-zero, add-zero}
 use native.Mathlib.Numerals.{add-one}
 use native.Mathlib.Omega.{arith}
 use lib.Dec.{eqb, ltb}
@@ -17,7 +17,7 @@ use Rattle.meaning.specs.Says.{Shown}
 use Rattle.meaning.proofs.Bool.{either, not-both, and-left, and-right, and-true, or-true-left, or-true-right}
 use Rattle.meaning.proofs.Below.{last, some-intro, some-elim, some-same, none-intro, first-none}
 use Rattle.sets.proofs.Bits.{bit-zero, zero-set}
-use Rattle.table.specs.Index.{block, row, Clean, Reaches, transitions-below, has-place, has-transition, unknown-test, names-unknown-at}
+use Rattle.table.specs.Index.{class, row, Clean, Reaches, transitions-below, has-place, has-transition, unknown-test, names-unknown-at}
 use Rattle.table.specs.Index.{arc-bit, prior, names-transition, Places-sound, Sound, none-of, lone}
 use Rattle.table.proofs.Rows.{row-low, two-low}
 use Rattle.table.proofs.Firsts.{none-yet, none-more, past-transitions, more-arcs, all-arcs}
@@ -37,25 +37,25 @@ places-none rows =
 
 -- One place more, that is sound: its arcs join those gathered.
 pub places-more : {rows : List ℕ} {m set : ℕ} → Places-sound rows m set → (arcs joined : ℕ) → arcs < 2 ^ 64 → ((t : ℕ) → bit arcs t ≡ arc-bit rows m t)
-    → cond (eqb arcs 0) (eqb (getD rows (576 + m) 0) 0 && not (has-place rows m)) (has-place rows m) ≡ true
+    → cond (eqb arcs 0) (eqb (getD rows (8 * m + 6) 0) 0 && not (has-place rows m)) (has-place rows m) ≡ true
     → ((t : ℕ) → bit joined t ≡ (bit set t || bit arcs t)) → Places-sound rows (m + 1) joined
 places-more {rows} {m} {set} k arcs joined low arcs-are asked joins =
     record {
       places = λ p h. ⊎-elim (λ (z : p ≡ m). rw z (here .0)) (k .places p) (last (rw add-one at h));
       carriers = λ p y h l e.
-          ⊎-elim (λ (z : p ≡ m). rw z (here .1 y (ap (λ (q : ℕ). bit (getD rows (576 + q) 0) y) (sym z) ∙ e))) (λ (b : p < m). k .carriers p y b l e)
+          ⊎-elim (λ (z : p ≡ m). rw z (here .1 y (ap (λ (q : ℕ). bit (getD rows (8 * q + 6) 0) y) (sym z) ∙ e))) (λ (b : p < m). k .carriers p y b l e)
           (last (rw add-one at h));
       arced = λ t h. more-arcs rows m t set arcs joined (k .arced t h) (arcs-are t) (joins t);
     }
   where
-    go : (b h : Bool) → cond (not b) (eqb (getD rows (576 + m) 0) 0 && not h) h ≡ true → (h ≡ b) × ((y : ℕ) → bit (getD rows (576 + m) 0) y ≡ true → h ≡ true)
+    go : (b h : Bool) → cond (not b) (eqb (getD rows (8 * m + 6) 0) 0 && not h) h ≡ true → (h ≡ b) × ((y : ℕ) → bit (getD rows (8 * m + 6) 0) y ≡ true → h ≡ true)
     go true h e = (e, λ y _. e)
-    go false true e = not-both (and-right (eqb (getD rows (576 + m) 0) 0) false e) refl
+    go false true e = not-both (and-right (eqb (getD rows (8 * m + 6) 0) 0) false e) refl
     go false false e =
-        let none : getD rows (576 + m) 0 ≡ 0 = eqb-true (getD rows (576 + m) 0) 0 (and-left _ true e) in
+        let none : getD rows (8 * m + 6) 0 ≡ 0 = eqb-true (getD rows (8 * m + 6) 0) 0 (and-left _ true e) in
         (refl, λ y b. not-both b (ap (λ (x : ℕ). bit x y) none ∙ bit-zero y))
 
-    here : (has-place rows m ≡ some 64 (arc-bit rows m)) × ((y : ℕ) → bit (getD rows (576 + m) 0) y ≡ true → has-place rows m ≡ true)
+    here : (has-place rows m ≡ some 64 (arc-bit rows m)) × ((y : ℕ) → bit (getD rows (8 * m + 6) 0) y ≡ true → has-place rows m ≡ true)
     here =
         go (some 64 (arc-bit rows m)) (has-place rows m)
         (rw (zero-set arcs low, some-same 64 (bit arcs) (arc-bit rows m) (λ t _. arcs-are t)) at asked)
@@ -68,7 +68,7 @@ places-all {rows} {n} {set} k reach =
           ⊎-elim (λ (b : ltb p n ≡ true). k .places p (ltb-true p n b))
           (λ (b : ltb p n ≡ false).
           let far = ltb-false p n b in
-          ap (λ (q : ℕ). has-place rows q) (sym (zero-add p))
+          ap (λ (q : ℕ). bit (getD rows q 0) 0) (sym (add-zero (8 * p)))
           ∙ reach .no-row 0 p 0 (omega arith) far h (omega arith)
           ∙ sym (none-intro 64 (arc-bit rows p) (λ t l. rw (reach .no-row 2 p t (omega arith) far h l, reach .no-row 3 p t (omega arith) far h l))))
           (either (ltb p n));
@@ -190,8 +190,8 @@ module _ {rows : List ℕ} (sound : Sound rows) where
   arc-transition p t h l e = sound .transitions t l ∙ some-intro 128 (λ p. arc-bit rows p t) p h e
 
   -- 5: a record that stands in the index names nothing unknown.
-  names-known : {k o t s f x : ℕ} → Shown k o t s f x → bit (getD rows (block k s + o) 0) t ≡ true → unknown-test rows k o t ≡ false
-  unfolding unknown-test block
+  names-known : {k o t s f x : ℕ} → Shown k o t s f x → bit (getD rows (8 * o + class k s) 0) t ≡ true → unknown-test rows k o t ≡ false
+  unfolding unknown-test class
   names-known (Shown.place a b) e = refl
   names-known (Shown.untimed a) e = refl
   names-known (Shown.between a b c d) e = refl
@@ -200,19 +200,19 @@ module _ {rows : List ℕ} (sound : Sound rows) where
       let own : arc-bit rows p t ≡ true = go (eqb s 3) e in
       rw (arc-place p t (omega arith) (omega arith) own, arc-transition p t (omega arith) (omega arith) own)
     where
-      go : (v : Bool) → bit (getD rows (cond v 320 192 + p) 0) t ≡ true → arc-bit rows p t ≡ true
-      go true q = or-true-right (bit (getD rows (192 + p) 0) t) q
-      go false q = or-true-left (bit (getD rows (320 + p) 0) t) q
+      go : (v : Bool) → bit (getD rows (8 * p + cond v 3 2) 0) t ≡ true → arc-bit rows p t ≡ true
+      go true q = or-true-right (bit (getD rows (8 * p + 2) 0) t) q
+      go false q = or-true-left (bit (getD rows (8 * p + 3) 0) t) q
   names-known (Shown.condition {t} {c} a b l) e =
-      rw (sound .namers t c (omega arith) (omega arith) (or-true-left (bit (getD rows (704 + t) 0) c) (or-true-left (prior rows t c) e)))
+      rw (sound .namers t c (omega arith) (omega arith) (or-true-left (bit (getD rows (8 * t + 7) 0) c) (or-true-left (prior rows t c) e)))
   names-known (Shown.priority {u} {t} a b) e =
       rw (
-        sound .namers u t (omega arith) (omega arith) (or-true-left (bit (getD rows (704 + u) 0) t) (or-true-right (bit (getD rows (448 + u) 0) t) e)),
+        sound .namers u t (omega arith) (omega arith) (or-true-left (bit (getD rows (8 * u + 7) 0) t) (or-true-right (bit (getD rows (8 * u + 4) 0) t) e)),
         sound .lower u t (omega arith) (omega arith) e,
       )
   names-known (Shown.action {p} {k} a b) e = rw (sound .carriers p k (omega arith) (omega arith) e)
   names-known (Shown.function {t} {k} a b) e =
-      rw (sound .namers t k (omega arith) (omega arith) (or-true-right (bit (getD rows (448 + t) 0) k || prior rows t k) e))
+      rw (sound .namers t k (omega arith) (omega arith) (or-true-right (bit (getD rows (8 * t + 4) 0) k || prior rows t k) e))
 
   pub records-known : {tb : Table} → Clean tb rows → (k : ℕ) → k < tb .records → names-unknown-at tb rows k ≡ false
   unfolding names-unknown-at row

@@ -3,12 +3,11 @@
 use mathlib.Core.Bool.{Bool, true, false, cond, _||_}
 use mathlib.Core.List.{List}
 use mathlib.Core.Path.{_≡_, refl, sym, ap, _∙_}
-use mathlib.Core.Logic.{⊎-elim}
-use Prim.Native.Nat.{ℕ, suc, _+_, _/_, _≤_, _<_}
-use native.Mathlib.Numerals.{add-one}
+use mathlib.Core.Logic.{inl, inr, ⊎-elim}
+use Prim.Native.Nat.{ℕ, suc, _+_, _*_, _/_, _≤_, _<_}
 use native.Mathlib.Omega.{arith}
-use lib.Dec.{eqb, ltb}
-use lib.ListN.{length, getD, set, replicate, length-set, length-replicate, getD-replicate}
+use lib.Dec.{eqb}
+use lib.ListN.{length, getD, set, replicate, length-set, getD-replicate, List·getD-eq-default}
 use borrow.Author.Tests.{lt-ltb, le-ltb, ne-eqb}
 use Rattle.meaning.specs.Bytes.{bit}
 use Rattle.meaning.specs.Table.{Table, table}
@@ -17,10 +16,11 @@ use Rattle.meaning.proofs.Below.{last, first-is, first-none}
 use Rattle.meaning.proofs.Shows.{Shows, shows}
 use Rattle.meaning.proofs.Same.{shown-kind}
 use Rattle.meaning.proofs.Faults.{faultless}
+use Rattle.meaning.proofs.Walk.{compared}
 use Rattle.records.specs.declared.Rec.{Rec}
 use Rattle.records.specs.Record.{Reads, alone, interval-of, fault-of}
-use Rattle.table.specs.Index.{row, row-of, Indexed, larger-of, top, Scanned}
-use Rattle.table.proofs.Rows.{row-low, one-low, twice-bit, add-record, no-records}
+use Rattle.table.specs.Index.{row, row-of, Roomy, Indexed, Scanned}
+use Rattle.table.proofs.Rows.{class-low, one-low, twice-bit, add-record, no-records}
 
 -- A RECORD AS IT WAS READ
 
@@ -67,62 +67,66 @@ module _ (tb : Table) (r : ℕ) (x : Rec) (reads : Reads tb r x) where
 
 -- WHAT THE PASS KEEPS
 
-pub record Passed (tb : Table) (n : ℕ) (rows : List ℕ) (high r : ℕ) : Type 0 where
+pub record Passed (tb : Table) (n : ℕ) (rows : List ℕ) (r : ℕ) : Type 0 where
   pub count : n ≡ tb .records
   pub most : r ≤ n
-  pub size : length rows ≡ 768
+  pub room : (k : ℕ) → k < tb .records → tb .one k < 128 → 8 * tb .one k + 8 ≤ length rows
   pub before : (k : ℕ) → k < r → faulty tb k ≡ false
-  pub highest : high ≡ top tb r
-  pub low : high < 128
   pub index : Indexed tb r rows
 
--- Before the first record.
-pub passed-none : (bs rows : List ℕ) → rows ≡ replicate 768 0 → Passed (table bs) (length bs / 8) rows 0 0
-unfolding table top
-passed-none bs rows e =
+-- An empty list has 0 in each row, and past the last.
+pub all-zero : (xs : List ℕ) → xs ≡ replicate (length xs) 0 → (q : ℕ) → getD xs q 0 ≡ 0
+all-zero xs e q =
+    elim (compared q (length xs)) [
+      | inl h ↦ ap (λ (l : List ℕ). getD l q 0) e ∙ getD-replicate (length xs) q 0 0 h
+      | inr (inl h) ↦ List·getD-eq-default xs 0 (omega arith)
+      | inr (inr h) ↦ List·getD-eq-default xs 0 (omega arith)
+    ]
+
+-- Before the first record. There is room for the rows of n numbers, and a table's numbers are among these.
+pub passed-none : (bs rows : List ℕ) (n : ℕ) → rows ≡ replicate (length rows) 0 → Roomy (table bs) n → length rows ≡ 8 * n
+    → Passed (table bs) (length bs / 8) rows 0
+unfolding table
+passed-none bs rows n e roomy size =
     record {
       count = refl;
       most = omega arith;
-      size = ap length e ∙ length-replicate {A = ℕ} 768 0;
+      room = λ k h l. omega (arith, size, roomy k h l);
       before = λ k l. absurd (omega arith);
-      highest = refl;
-      low = omega arith;
-      index = no-records (table bs) rows (λ q l. rw e (getD-replicate 768 q 0 0 l));
+      index = no-records (table bs) rows (all-zero rows e);
     }
 
 -- The pass is over.
-pub passed-all : {tb : Table} {n : ℕ} {rows : List ℕ} {high r : ℕ} → Passed tb n rows high r → n ≤ r
-    → Scanned tb (record { number = 0; at = n; reach = high + 1 }) rows
-passed-all {tb} {n} {rows} {high} {r} kept h =
+pub passed-all : {tb : Table} {n : ℕ} {rows : List ℕ} {r : ℕ} → Passed tb n rows r → n ≤ r
+    → Scanned tb (record { number = 0; at = n }) rows
+passed-all {tb} {n} {rows} {r} kept h =
     let e : n ≡ r = omega (arith, kept .most) in
     record {
       at = kept .count ∙ sym (first-none (tb .records) (faulty tb) (λ k l. kept .before k (omega (arith, kept .count))));
       number = rw (le-ltb n (tb .records) (omega (arith, kept .count)));
-      reach = add-one high ∙ ap suc (kept .highest ∙ ap (top tb) (sym e));
       index = rw e (kept .index);
     }
 
 -- It stops at a record that has a fault.
-stopped : {tb : Table} {n : ℕ} {rows : List ℕ} {high r : ℕ} → Passed tb n rows high r → r < n → (f : ℕ) → fault tb r ≡ f → (f ≡ 0 → ⊥)
-    → Scanned tb (record { number = f; at = r; reach = high + 1 }) rows
+stopped : {tb : Table} {n : ℕ} {rows : List ℕ} {r : ℕ} → Passed tb n rows r → r < n → (f : ℕ) → fault tb r ≡ f → (f ≡ 0 → ⊥)
+    → Scanned tb (record { number = f; at = r }) rows
 unfolding faulty
-stopped {tb} {n} {rows} {high} {r} kept more f e h =
+stopped {tb} {n} {rows} {r} kept more f e h =
     let here : r < tb .records = omega (arith, kept .count) in
     record {
       at = sym (first-is (tb .records) (faulty tb) r here (rw (e, ne-eqb f 0 h)) (kept .before));
       number = rw (lt-ltb r (tb .records) here) (sym e);
-      reach = add-one high ∙ ap suc (kept .highest);
       index = kept .index;
     }
 
 -- A fault of the record's own columns.
-pub stopped-own : {tb : Table} {n : ℕ} {rows : List ℕ} {high r : ℕ} → Passed tb n rows high r → r < n → {x : Rec} → Reads tb r x → {f : ℕ}
-    → f ≡ fault-of x → (f ≡ 0 → ⊥) → Scanned tb (record { number = f; at = r; reach = high + 1 }) rows
-stopped-own {tb} {n} {rows} {high} {r} kept more {x} reads {f} e h = stopped kept more f (own-fault tb r x reads (λ z. h (e ∙ z)) ∙ sym e) h
+pub stopped-own : {tb : Table} {n : ℕ} {rows : List ℕ} {r : ℕ} → Passed tb n rows r → r < n → {x : Rec} → Reads tb r x → {f : ℕ}
+    → f ≡ fault-of x → (f ≡ 0 → ⊥) → Scanned tb (record { number = f; at = r }) rows
+stopped-own {tb} {n} {rows} {r} kept more {x} reads {f} e h = stopped kept more f (own-fault tb r x reads (λ z. h (e ∙ z)) ∙ sym e) h
 
 -- A record whose own columns are in order, to be kept in bit y of row q.
-pub record Step (tb : Table) (n : ℕ) (rows : List ℕ) (high r q y : ℕ) : Type 0 where
-  pub kept : Passed tb n rows high r
+pub record Step (tb : Table) (n : ℕ) (rows : List ℕ) (r q y : ℕ) : Type 0 where
+  pub kept : Passed tb n rows r
   pub more : r < n
   pub x : Rec
   pub reads : Reads tb r x
@@ -130,20 +134,18 @@ pub record Step (tb : Table) (n : ℕ) (rows : List ℕ) (high r q y : ℕ) : Ty
   pub row-of-x : q ≡ row-of x
   pub two-of-x : y ≡ x .two
 
--- The larger of two numbers below m is below m.
-pub larger-low : (a b m : ℕ) → a < m → b < m → larger-of a b < m
-larger-low a b m h l = go (ltb a b)
-  where
-    go : (t : Bool) → cond t b a < m
-    go true = l
-    go false = h
-
-module _ {tb : Table} {n : ℕ} {rows : List ℕ} {high r q y : ℕ} (z : Step tb n rows high r q y) where
+module _ {tb : Table} {n : ℕ} {rows : List ℕ} {r q y : ℕ} (z : Step tb n rows r q y) where
   shown : Shows tb r
   shown = in-order tb r (z .x) (z .reads) (z .sound) .0
 
   row-is : q ≡ row tb r
   row-is = z .row-of-x ∙ row-read tb r (z .x) (z .reads) shown
+
+  -- It is one of the rows.
+  row-room : row tb r < length rows
+  unfolding row
+  row-room =
+      omega (arith, z .kept .room r (omega (arith, z .more, z .kept .count)) (one-low shown), class-low (tb .kind r) (tb .sort r))
 
   two-is : y ≡ tb .two r
   two-is = z .two-of-x ∙ z .reads .two
@@ -156,24 +158,21 @@ module _ {tb : Table} {n : ℕ} {rows : List ℕ} {high r q y : ℕ} (z : Step t
       (ap (λ (b : Bool). cond b 4 0)
       (twice-bit tb r shown rows (z .kept .index) (λ s l. faultless tb s (z .kept .before s l) .0)))
 
-  pub stopped-twice : bit (getD rows q 0) y ≡ true → Scanned tb (record { number = 4; at = r; reach = high + 1 }) rows
+  pub stopped-twice : bit (getD rows q 0) y ≡ true → Scanned tb (record { number = 4; at = r }) rows
   stopped-twice b = stopped (z .kept) (z .more) 4 (bit-fault ∙ rw b) (omega arith)
 
   -- The next record.
-  pub passed-one : (line one high′ : ℕ) → bit (getD rows q 0) y ≡ false
-      → ((j : ℕ) → bit line j ≡ (bit (getD rows q 0) j || eqb y j)) → one ≡ tb .one r → high′ ≡ larger-of high one
-      → Passed tb n (set rows q line) high′ (suc r)
-  unfolding faulty top
-  passed-one line one high′ b e one-is f =
+  pub passed-one : (line : ℕ) → bit (getD rows q 0) y ≡ false → ((j : ℕ) → bit line j ≡ (bit (getD rows q 0) j || eqb y j))
+      → Passed tb n (set rows q line) (suc r)
+  unfolding faulty
+  passed-one line b e =
       record {
         count = z .kept .count;
         most = z .more;
-        size = length-set rows q line ∙ z .kept .size;
+        room = λ k h l. omega (arith, length-set rows q line, z .kept .room k h l);
         before = λ k l. ⊎-elim (λ (w : k ≡ r). ap (faulty tb) w ∙ rw (bit-fault, b)) (z .kept .before k) (last l);
-        highest = f ∙ rw (z .kept .highest, one-is);
-        low = rw f (larger-low high one 128 (z .kept .low) (omega (arith, one-is, one-low shown)));
         index =
             rw row-is
-            (add-record tb r rows line (z .kept .index) (omega (arith, z .kept .size, row-low tb r shown))
+            (add-record tb r rows line (z .kept .index) row-room
             (rw (row-is, two-is) at e));
       }

@@ -4,7 +4,7 @@ use mathlib.Core.Bool.{Bool, true, false, cond, not, _&&_, _||_}
 use mathlib.Core.List.{List}
 use mathlib.Core.Logic.{⊎-elim}
 use mathlib.Core.Path.{_≡_, refl, sym, ap, _∙_}
-use Prim.Native.Nat.{ℕ, zero, suc, _+_, _≤_, _<_}
+use Prim.Native.Nat.{ℕ, zero, suc, _+_, _*_, _≤_, _<_}
 use native.Mathlib.Nat.{not-suc-le-zero, lt-of-not-le}
 use native.Mathlib.Omega.{arith}
 use lib.Dec.{eqb, ltb}
@@ -15,10 +15,8 @@ use Rattle.meaning.specs.Table.{Table, is}
 use Rattle.meaning.proofs.Bool.{and-left, and-right, or-false-right, not-both}
 use Rattle.meaning.proofs.Below.{last, some-elim}
 use Rattle.meaning.proofs.Reflect.{not-true-false}
-use Rattle.table.specs.declared.Pass.{Pass}
-use Rattle.table.specs.Index.{row, larger-of, top, Scanned, base, Reaches, transitions-below, has-place, has-transition, unknown-test, names-unknown-at}
+use Rattle.table.specs.Index.{row, larger-of, top, extent-of, Reaches, Roomy, transitions-below, has-place, has-transition, unknown-test, names-unknown-at}
 use Rattle.table.proofs.Rows.{spot, one-low, two-low, row-test, within}
-use Rattle.table.proofs.Passed.{larger-low}
 use Rattle.table.proofs.Firsts.{past-transitions}
 use Rattle.table.proofs.Carry.{Clean, shown}
 
@@ -32,7 +30,15 @@ larger-is a b = go (ltb a b) refl
     go true e = (omega (arith, ltb-true a b e), omega arith)
     go false e = (omega arith, ltb-false a b e)
 
--- No record passed has more.
+-- The larger of two numbers below m is below m.
+larger-low : (a b m : ℕ) → a < m → b < m → larger-of a b < m
+larger-low a b m h l = go (ltb a b)
+  where
+    go : (t : Bool) → cond t b a < m
+    go true = l
+    go false = h
+
+-- None of the first n records has more.
 top-is : (tb : Table) (n r : ℕ) → r < n → tb .one r ≤ top tb n
 unfolding top
 top-is tb zero r h = absurd (not-suc-le-zero h)
@@ -52,27 +58,35 @@ top-low tb (suc n) m h f = larger-low (top tb n) (tb .one n) m (top-low tb n m h
 abbrev pub Below : Table → ℕ → Type 0
 Below tb n = (r : ℕ) → r < tb .records → tb .one r < n
 
--- So it is where the pass saw all records.
-pub below-of : {tb : Table} {s : Pass} {rows : List ℕ} → Scanned tb s rows → tb .records ≤ s .at → Below tb (s .reach)
-below-of {tb} {s} h all r l = omega (arith, top-is tb (s .at) r (omega arith), h .reach)
+-- So it is of the extent.
+pub below-of : (tb : Table) {n : ℕ} → n ≡ extent-of tb → Below tb n
+unfolding extent-of
+below-of tb {n} e r l = omega (arith, top-is tb (tb .records) r l, e)
 
 -- Then the index goes no further.
-pub reaches-of : {tb : Table} {s : Pass} {rows : List ℕ} → Scanned tb s rows → s .at ≡ tb .records → Clean tb rows → Reaches rows (s .reach)
-unfolding row
-reaches-of {tb} {s} {rows} h all clean =
-    let below : Below tb (s .reach) = below-of h (omega arith) in
+pub reaches-of : {tb : Table} {n : ℕ} {rows : List ℕ} → n ≡ extent-of tb → Clean tb rows → Reaches rows n
+unfolding row extent-of
+reaches-of {tb} {n} {rows} reached clean =
+    let below : Below tb n = below-of tb reached in
     record {
       most =
-          let low = top-low tb (s .at) 128 (omega arith) (λ r l. one-low (shown clean r (omega arith))) in
-          omega (arith, low, h .reach);
+          let low = top-low tb (tb .records) 128 (omega arith) (λ r l. one-low (shown clean r l)) in
+          omega (arith, low, reached);
       no-row = λ c i y hc n l hy. not-true-false _
           (λ e.
-          let q : base c + i < 768 = omega (arith, within c hc) in
-          let w = some-elim (tb .records) (λ r. eqb (row tb r) (base c + i) && eqb (tb .two r) y) (sym (clean .index .holds (base c + i) y q hy) ∙ e) in
+          let q : 8 * i + c < 1024 = omega (arith, within c hc) in
+          let w = some-elim (tb .records) (λ r. eqb (row tb r) (8 * i + c) && eqb (tb .two r) y) (sym (clean .index .holds (8 * i + c) y q hy) ∙ e) in
           let r : ℕ = w .0 in
-          let here = sym (row-test (spot (shown clean r (w .1))) c i hc l) ∙ and-left (eqb (row tb r) (base c + i)) _ (w .2) in
-          omega (arith, below r (w .1), eqb-true (tb .one r) i (and-right (eqb (spot (shown clean r (w .1)) .class) c) (eqb (tb .one r) i) here)));
+          let here = sym (row-test (spot (shown clean r (w .1))) c i hc) ∙ and-left (eqb (row tb r) (8 * i + c)) _ (w .2) in
+          omega (arith, below r (w .1), eqb-true (tb .one r) i (and-right (eqb (spot (shown clean r (w .1)) .among) c) (eqb (tb .one r) i) here)));
     }
+
+-- Where there is room for so many numbers, it goes no further than these.
+pub roomy-reach : {tb : Table} {n m : ℕ} {rows : List ℕ} → n ≡ extent-of tb → Clean tb rows → Roomy tb m → 0 < m → n ≤ m
+unfolding extent-of
+roomy-reach {tb} {n} {m} {rows} reached clean room any =
+    let low = top-low tb (tb .records) m any (λ r l. room r l (one-low (shown clean r l))) in
+    omega (arith, low, reached)
 
 -- An arc or a priority names a transition by its byte 2. Where the index has that transition, it is below n.
 pub named-below : {tb : Table} {rows : List ℕ} {n : ℕ} → Clean tb rows → Reaches rows n → (r : ℕ) → r < tb .records → names-unknown-at tb rows r ≡ false
@@ -89,5 +103,5 @@ named-below {tb} {rows} {n} clean reach r h known named =
 
 -- No priority is written with a higher transition past the transitions below n.
 pub no-pair : {rows : List ℕ} {n m : ℕ} → Reaches rows n → m ≡ transitions-below n → (u t : ℕ) → m ≤ u → u < 64 → t < 64
-    → bit (getD rows (512 + u) 0) t ≡ false
+    → bit (getD rows (8 * u + 5) 0) t ≡ false
 no-pair {rows} {n} {m} reach few u t h l i = reach .no-row 5 u t (omega arith) (past-transitions n u (omega arith) l) l i

@@ -1,14 +1,13 @@
--- The blocks of the index do not overlap, so two records that the page shows share a row exactly if they are of one class and name one thing.
+-- Each number has a row for each class, so two records that the page shows share a row exactly if they are of one class and name one thing.
 use mathlib.Core.Bool.{Bool, true, false, cond, not, _&&_, _||_, Bool·beq}
 use mathlib.Core.List.{List, [], _∷_}
 use mathlib.Core.Path.{_≡_, refl, sym, ap, _∙_}
-use mathlib.Core.Logic.{inl, inr}
-use Prim.Native.Nat.{ℕ, zero, suc, _+_, _≤_, _<_}
+use Prim.Native.Nat.{ℕ, zero, suc, _+_, _*_, _≤_, _<_}
 use native.Mathlib.Omega.{arith}
-use lib.Dec.{ltb, leb, eqb}
+use lib.Dec.{leb, eqb}
 use lib.ListN.{length, getD, set, List·getD-eq-default}
 use lib.Seq.{getD-set-same, getD-set-other}
-use borrow.Author.Tests.{lt-ltb, leb-true, eqb-true, eqb-false, eq-eqb}
+use borrow.Author.Tests.{leb-true, eqb-true, eqb-false, eq-eqb}
 use Rattle.meaning.specs.Below.{some, every}
 use Rattle.meaning.specs.Bytes.{bit}
 use Rattle.meaning.specs.Table.{Table}
@@ -18,10 +17,9 @@ use Rattle.meaning.proofs.Bool.{and-left, and-right, and-true, same-test}
 use Rattle.meaning.proofs.Below.{every-elim, some-same}
 use Rattle.meaning.proofs.Shows.{Shows}
 use Rattle.sets.proofs.Bits.{bit-zero}
-use Rattle.meaning.proofs.Walk.{compared}
 use Rattle.records.specs.declared.Rec.{Rec}
-use Rattle.table.specs.Index.{block, row, row-of, Indexed}
-pub use Rattle.table.specs.Index.{base, width}
+use Rattle.table.specs.Index.{plain-classes, class, row, row-of, Indexed}
+pub use Rattle.table.specs.Index.{width}
 
 -- THE EIGHT CLASSES OF RECORDS
 
@@ -31,19 +29,19 @@ kind-of c = getD (1 ∷ 2 ∷ 3 ∷ 3 ∷ 4 ∷ 5 ∷ 6 ∷ 7 ∷ []) c 0
 
 -- Where a record of this kind, byte 1 and sort stands.
 pub record Spot (k o s : ℕ) : Type 0 where
-  pub class : ℕ
-  pub low : class < 8
-  pub base-is : block k s ≡ base class
-  pub fits : o < width class
-  pub kind-is : k ≡ kind-of class
-  pub post-is : (eqb k 3 && eqb s 3) ≡ eqb class 3
+  pub among : ℕ
+  pub low : among < 8
+  pub among-is : class k s ≡ among
+  pub fits : o < width among
+  pub kind-is : k ≡ kind-of among
+  pub post-is : (eqb k 3 && eqb s 3) ≡ eqb among 3
 
-at : {k o s : ℕ} (c : ℕ) → c < 8 → block k s ≡ base c → o < width c → k ≡ kind-of c → (eqb k 3 && eqb s 3) ≡ eqb c 3 → Spot k o s
-at c l b f k p = record { class = c; low = l; base-is = b; fits = f; kind-is = k; post-is = p }
+at : {k o s : ℕ} (c : ℕ) → c < 8 → class k s ≡ c → o < width c → k ≡ kind-of c → (eqb k 3 && eqb s 3) ≡ eqb c 3 → Spot k o s
+at c l b f k p = record { among = c; low = l; among-is = b; fits = f; kind-is = k; post-is = p }
 
 -- What the page shows has its spot, its byte 1 is below 128 and its byte 2 below 64.
 pub spot : {k o t s f x : ℕ} → Shown k o t s f x → Spot k o s
-unfolding block
+unfolding class
 spot (Shown.place a b) = at 0 (omega arith) refl (omega arith) refl refl
 spot (Shown.untimed a) = at 1 (omega arith) refl (omega arith) refl refl
 spot (Shown.between a b c d) = at 1 (omega arith) refl (omega arith) refl refl
@@ -90,35 +88,22 @@ beq-true true false e = sym e
 beq-true false true e = e
 beq-true false false e = refl
 
--- A class's block ends before the next one's begins, and the last within the index.
-apart : (c d : ℕ) → c < d → d < 8 → base c + width c ≤ base d
+-- No class has more than 128 numbers.
+pub within : (c : ℕ) → c < 8 → width c ≤ 128
 unfolding every
-apart c d l h =
-    leb-true (base c + width c) (base d)
-    (rw (lt-ltb c d l) at (classes (λ c d. not (ltb c d) || leb (base c + width c) (base d)) refl c d (omega arith) h))
-
-pub within : (c : ℕ) → c < 8 → base c + width c ≤ 768
-unfolding every
-within c h = leb-true (base c + width c) 768 (every-elim 8 (λ c. leb (base c + width c) 768) refl c h)
+within c h = leb-true (width c) 128 (every-elim 8 (λ c. leb (width c) 128) refl c h)
 
 -- A record's row is row i of class c exactly if it is of that class and its byte 1 is i.
-pub row-test : {k o s : ℕ} (z : Spot k o s) (c i : ℕ) → c < 8 → i < width c → eqb (block k s + o) (base c + i) ≡ (eqb (z .class) c && eqb o i)
-row-test {k} {o} {s} z c i h l = same-test _ _ there back
-  where
-    there : eqb (block k s + o) (base c + i) ≡ true → (eqb (z .class) c && eqb o i) ≡ true
-    there t =
-        let e = eqb-true (block k s + o) (base c + i) t in
-        elim (compared (z .class) c) [
-          | inl q ↦ absurd (omega (arith, e, apart (z .class) c q h, z .base-is, z .fits))
-          | inr (inl q) ↦ and-true (eq-eqb (z .class) c q) (eq-eqb o i (omega (arith, e, ap base q, z .base-is)))
-          | inr (inr q) ↦ absurd (omega (arith, e, apart c (z .class) q (z .low), z .base-is))
-        ]
-
-    back : (eqb (z .class) c && eqb o i) ≡ true → eqb (block k s + o) (base c + i) ≡ true
-    back t =
-        let q = eqb-true (z .class) c (and-left _ _ t) in
-        let e = eqb-true o i (and-right (eqb (z .class) c) _ t) in
-        eq-eqb (block k s + o) (base c + i) (omega (arith, ap base q, z .base-is))
+pub row-test : {k o s : ℕ} (z : Spot k o s) (c i : ℕ) → c < 8 → eqb (8 * o + class k s) (8 * i + c) ≡ (eqb (z .among) c && eqb o i)
+row-test {k} {o} {s} z c i h =
+    same-test _ _
+    (λ t.
+    let e = eqb-true (8 * o + class k s) (8 * i + c) t in
+    and-true (eq-eqb (z .among) c (omega (arith, e, z .among-is, z .low))) (eq-eqb o i (omega (arith, e, z .among-is, z .low))))
+    (λ t.
+    let q = eqb-true (z .among) c (and-left _ _ t) in
+    let e = eqb-true o i (and-right (eqb (z .among) c) _ t) in
+    eq-eqb (8 * o + class k s) (8 * i + c) (omega (arith, z .among-is)))
 
 -- Two classes are the same exactly if their kinds are, and of arcs both are post arcs or neither is.
 class-same : (a b : ℕ) → a < 8 → b < 8
@@ -130,8 +115,8 @@ class-same a b h l =
 
 -- So of two records: they are of one class exactly if they are of one kind, and of arcs both are post arcs or neither is.
 spots-same : {k o s j m w : ℕ} (y : Spot k o s) (z : Spot j m w)
-    → (eqb k j && (not (eqb j 3) || Bool·beq (eqb k 3 && eqb s 3) (eqb j 3 && eqb w 3))) ≡ eqb (y .class) (z .class)
-spots-same y z = rw (y .post-is, z .post-is, y .kind-is, z .kind-is) (class-same (y .class) (z .class) (y .low) (z .low))
+    → (eqb k j && (not (eqb j 3) || Bool·beq (eqb k 3 && eqb s 3) (eqb j 3 && eqb w 3))) ≡ eqb (y .among) (z .among)
+spots-same y z = rw (y .post-is, z .post-is, y .kind-is, z .kind-is) (class-same (y .among) (z .among) (y .low) (z .low))
 
 -- The same four tests in another order.
 shuffle : (k o t p : Bool) → (k && o && t && p) ≡ (k && p && o && t)
@@ -144,16 +129,16 @@ shuffle true false t true = refl
 shuffle true false t false = refl
 
 -- A class is c exactly if its kind is k, where this is so of all eight.
-pub class-is : (k c : ℕ) → every 8 (λ a. Bool·beq (eqb a c) (eqb (kind-of a) k)) ≡ true → {j o s : ℕ} (z : Spot j o s) → eqb (z .class) c ≡ eqb j k
-class-is k c e z = rw (z .kind-is) (beq-true _ _ (every-elim 8 _ e (z .class) (z .low)))
+pub class-is : (k c : ℕ) → every 8 (λ a. Bool·beq (eqb a c) (eqb (kind-of a) k)) ≡ true → {j o s : ℕ} (z : Spot j o s) → eqb (z .among) c ≡ eqb j k
+class-is k c e z = rw (z .kind-is) (beq-true _ _ (every-elim 8 _ e (z .among) (z .low)))
 
 module _ (tb : Table) (r : ℕ) (shown-r : Shows tb r) where
   -- A record's row is in the index.
-  pub row-low : row tb r < 768
+  pub row-low : row tb r < 1024
   unfolding row
   row-low =
       let z = spot shown-r in
-      omega (arith, within (z .class) (z .low), z .base-is, z .fits)
+      omega (arith, within (z .among) (z .low), z .among-is, z .low, z .fits)
 
   -- Two records say the same exactly if they share a row and a bit.
   pub same-row : (s : ℕ) → Shows tb s → same tb r s ≡ (eqb (row tb s) (row tb r) && eqb (tb .two s) (tb .two r))
@@ -164,7 +149,7 @@ module _ (tb : Table) (r : ℕ) (shown-r : Shows tb r) where
       shuffle (eqb (tb .kind s) (tb .kind r)) (eqb (tb .one s) (tb .one r)) (eqb (tb .two s) (tb .two r)) _
       ∙ ap (λ (b : Bool). b && eqb (tb .one s) (tb .one r) && eqb (tb .two s) (tb .two r)) (spots-same y z)
       ∙ ap (λ (b : Bool). b && eqb (tb .two s) (tb .two r))
-      (sym (ap (λ (n : ℕ). eqb (row tb s) (n + tb .one r)) (z .base-is) ∙ row-test y (z .class) (tb .one r) (z .low) (z .fits)))
+      (sym (ap (λ (c : ℕ). eqb (row tb s) (8 * tb .one r + c)) (z .among-is) ∙ row-test y (z .among) (tb .one r) (z .low)))
 
   -- So an earlier record says the same exactly if the row that the records before this one left has the bit.
   pub twice-bit : (rows : List ℕ) → Indexed tb r rows → ((s : ℕ) → s < r → Shows tb s) → twice tb r ≡ bit (getD rows (row tb r) 0) (tb .two r)
@@ -179,7 +164,7 @@ pub add-record : (tb : Table) (r : ℕ) (rows : List ℕ) (line : ℕ) → Index
 unfolding some
 add-record tb r rows line i h e = record { holds = λ q y m n. go q y m n (eqb (row tb r) q) refl }
   where
-    go : (q y : ℕ) → q < 768 → y < 64 → (b : Bool) → eqb (row tb r) q ≡ b
+    go : (q y : ℕ) → q < 1024 → y < 64 → (b : Bool) → eqb (row tb r) q ≡ b
         → bit (getD (set rows (row tb r) line) q 0) y ≡ some (suc r) (λ k. eqb (row tb k) q && eqb (tb .two k) y)
     go q y m n true t =
         let here : row tb r ≡ q = eqb-true (row tb r) q t in
@@ -194,43 +179,43 @@ add-record tb r rows line i h e = record { holds = λ q y m n. go q y m n (eqb (
         ∙ rw t (sym (mathlib.Core.Bool.or-false _))
 
 -- Before the first record the index is empty.
-pub no-records : (tb : Table) (rows : List ℕ) → ((q : ℕ) → q < 768 → getD rows q 0 ≡ 0) → Indexed tb 0 rows
+pub no-records : (tb : Table) (rows : List ℕ) → ((q : ℕ) → getD rows q 0 ≡ 0) → Indexed tb 0 rows
 unfolding some
-no-records tb rows f = record { holds = λ q y m n. ap (λ (x : ℕ). bit x y) (f q m) ∙ bit-zero y }
+no-records tb rows f = record { holds = λ q y m n. ap (λ (x : ℕ). bit x y) (f q) ∙ bit-zero y }
 
--- THE BLOCKS AS THE SOURCE HAS THEM
+-- THE CLASSES AS THE SOURCE HAS THEM
 
--- There is no block past kind 7, and but for the post arcs a block is that of its kind.
-pub block-out : (k s : ℕ) → 7 < k → block k s ≡ 0
-unfolding block
-block-out k s h = List·getD-eq-default (0 ∷ 0 ∷ 128 ∷ cond (eqb s 3) 320 192 ∷ 448 ∷ 512 ∷ 576 ∷ 704 ∷ []) 0 h
+-- There is no class past kind 7, and but for the post arcs a class is that of its kind.
+pub class-out : (k s : ℕ) → 7 < k → class k s ≡ 0
+unfolding class
+class-out k s h = List·getD-eq-default (0 ∷ 0 ∷ 1 ∷ cond (eqb s 3) 3 2 ∷ 4 ∷ 5 ∷ 6 ∷ 7 ∷ []) 0 h
 
-pub block-plain : (k s : ℕ) → (k ≡ 3 → ⊥) → getD (0 ∷ 0 ∷ 128 ∷ 192 ∷ 448 ∷ 512 ∷ 576 ∷ 704 ∷ []) k 0 ≡ block k s
-unfolding block
-block-plain zero s h = refl
-block-plain (suc zero) s h = refl
-block-plain (suc (suc zero)) s h = refl
-block-plain (suc (suc (suc zero))) s h = absurd (h refl)
-block-plain (suc (suc (suc (suc k)))) s h = refl
+pub class-plain : (k s : ℕ) → (k ≡ 3 → ⊥) → getD plain-classes k 0 ≡ class k s
+unfolding class
+class-plain zero s h = refl
+class-plain (suc zero) s h = refl
+class-plain (suc (suc zero)) s h = refl
+class-plain (suc (suc (suc zero))) s h = absurd (h refl)
+class-plain (suc (suc (suc (suc k)))) s h = refl
 
 -- The row of an arc, of a record by itself.
-pub arc-row-of : (x : Rec) → x .kind ≡ 3 → row-of x ≡ block 3 (x .sort) + x .one
+pub arc-row-of : (x : Rec) → x .kind ≡ 3 → row-of x ≡ 8 * x .one + class 3 (x .sort)
 unfolding row-of
 arc-row-of x e = rw e
 
--- No block begins past 704.
-pub block-most : (k s : ℕ) → block k s ≤ 704
-unfolding block
-block-most zero s = omega arith
-block-most (suc zero) s = omega arith
-block-most (suc (suc zero)) s = omega arith
-block-most (suc (suc (suc zero))) s = go (eqb s 3)
+-- No class is past 7.
+pub class-low : (k s : ℕ) → class k s < 8
+unfolding class
+class-low zero s = omega arith
+class-low (suc zero) s = omega arith
+class-low (suc (suc zero)) s = omega arith
+class-low (suc (suc (suc zero))) s = go (eqb s 3)
   where
-    go : (b : Bool) → cond b 320 192 ≤ 704
+    go : (b : Bool) → cond b 3 2 < 8
     go true = omega arith
     go false = omega arith
-block-most (suc (suc (suc (suc zero)))) s = omega arith
-block-most (suc (suc (suc (suc (suc zero))))) s = omega arith
-block-most (suc (suc (suc (suc (suc (suc zero)))))) s = omega arith
-block-most (suc (suc (suc (suc (suc (suc (suc zero))))))) s = omega arith
-block-most (suc (suc (suc (suc (suc (suc (suc (suc k)))))))) s = omega arith
+class-low (suc (suc (suc (suc zero)))) s = omega arith
+class-low (suc (suc (suc (suc (suc zero))))) s = omega arith
+class-low (suc (suc (suc (suc (suc (suc zero)))))) s = omega arith
+class-low (suc (suc (suc (suc (suc (suc (suc zero))))))) s = omega arith
+class-low (suc (suc (suc (suc (suc (suc (suc (suc k)))))))) s = omega arith

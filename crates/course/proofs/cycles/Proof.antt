@@ -13,23 +13,23 @@ use Rattle.course.proofs.cycles.Statement.{statement}
 use Rattle.course.proofs.cycles.Tie as tie
 
 abbrev Inv-loop : tie.InvT-loop
-Inv-loop t image words report₀ tokens₀ counters₀ known timed conditional lower n eights gain sorts a b limit last index rivals w s takers low high curbs heads next truths count orders₀ held₀ shown₀ from₀ upto₀ before₀ taken₀ put₀ left₀ marks₀ top₀ i₀ report tokens counters orders held shown from upto before taken put left marks top i =
+Inv-loop t image words report₀ tokens₀ counters₀ known timed conditional lower n eights gain sorts a b limit last index rivals w s takers low high curbs heads next truths count orders₀ held₀ lacks₀ shown₀ from₀ upto₀ before₀ taken₀ put₀ left₀ marks₀ top₀ i₀ report tokens counters orders held lacks shown from upto before taken put left marks top i =
     (count ≡ length words / 8) × (i ≤ count) × At t image words report₀ i (record { tokens = tokens; counters = counters; orders = orders }) report
-    × Sized tokens counters × Poised index w s tokens held shown from upto taken put left marks × (top ≤ 65535 + gain)
+    × Sized tokens counters × Poised index w s curbs tokens held lacks shown from upto taken put left marks × (top ≤ 65535 + gain)
     × ((p : ℕ) → p < 128 → getD tokens p 0 ≤ top)
 
 abbrev μ-loop : tie.MeasureT-loop
-μ-loop t image words report₀ tokens₀ counters₀ known timed conditional lower n eights gain sorts a b limit last index rivals w s takers low high curbs heads next truths count orders₀ held₀ shown₀ from₀ upto₀ before₀ taken₀ put₀ left₀ marks₀ top₀ i₀ report tokens counters orders held shown from upto before taken put left marks top i = count - i
+μ-loop t image words report₀ tokens₀ counters₀ known timed conditional lower n eights gain sorts a b limit last index rivals w s takers low high curbs heads next truths count orders₀ held₀ lacks₀ shown₀ from₀ upto₀ before₀ taken₀ put₀ left₀ marks₀ top₀ i₀ report tokens counters orders held lacks shown from upto before taken put left marks top i = count - i
 
 -- The way back: from the step to the turn it belongs to, from the first levels to the image read, and from there to the start.
 abbrev turn : tie.After-step Inv-loop μ-loop → tie.In-loop Inv-loop μ-loop
-turn c = c .before .before .before .before .before .before .before .before .before .before .before .before .before .before .before
+turn c = c .before .before .before .before .before .before .before .before .before .before .before .before .before .before .before .before
 
 abbrev loaded : tie.After-hold Inv-loop μ-loop → tie.After-load Inv-loop μ-loop
-loaded c = c .before .before .before .before .before .before
+loaded c = c .before .before .before .before .before .before .before
 
 abbrev begun : tie.After-load Inv-loop μ-loop → tie.Start Inv-loop μ-loop
-begun c = c .before .before .before .before .before .before .before
+begun c = c .before .before .before .before .before .before .before .before .before .before .before
 
 abbrev start : tie.At-loop Inv-loop μ-loop → tie.Start Inv-loop μ-loop
 start c = begun (loaded (c .before))
@@ -41,14 +41,14 @@ ready c = start c .pre .1 .1 .1 .1 .1
 
 load-requires : tie.Need-load-requires Inv-loop μ-loop
 load-requires c κs =
-    let sized = c .before .before .before .before .before .before .pre .1 .1 .1 .1 .0 in
+    let sized = c .before .before .before .before .before .before .before .before .before .before .pre .1 .1 .1 .1 .0 in
     (sized .places, sized .transitions)
 
 hold-requires : tie.Need-hold-requires Inv-loop μ-loop
 hold-requires c κs =
-    let load = c .before .before .before .before .before in
+    let load = c .before .before .before .before .before .before in
     let pre = begun load .pre in
-    ((refl, refl, refl, refl), ((pre .0 .curbed, weighty (pre .0)), (pre .1 .0, λ p h. omega (arith, load .load .ensures .1 .0 .tokens p h))))
+    ((refl, refl, refl, refl, refl), ((pre .0 .curbed, weighty (pre .0), omega (arith, pre .1 .0 .1, pre .0 .rooms .weight-rows), omega (arith, pre .1 .0 .1, pre .0 .rooms .index-rows)), (pre .1 .0 .0, λ p h. omega (arith, load .load .ensures .1 .0 .tokens p h))))
 
 loop-holds : tie.Need-loop-holds Inv-loop μ-loop
 loop-holds c =
@@ -59,7 +59,8 @@ loop-holds c =
       begins _ _ _ _ (pre .0 .sound) (pre .1 .1 .1 .1 .1) _ (load .0) (load .1 .0),
       record { places = load .1 .1 .0; transitions = load .1 .1 .1 },
       record {
-        levels = c .hold .ensures;
+        levels = c .hold .ensures .0;
+        wanting = c .hold .ensures .1;
         none-taken = record { size = length-replicate {A = ℕ} 128 0; none = λ p l. none-set p };
         none-put = record { size = length-replicate {A = ℕ} 128 0; none = λ p l. none-set p };
         room = (length-replicate {A = ℕ} 128 0, length-replicate {A = ℕ} 128 0);
@@ -79,7 +80,7 @@ ceiling-requires c κs =
 
 step-requires : tie.Need-step-requires Inv-loop μ-loop
 step-requires c κs =
-    let ceiling = c .before .before .before .before .before .before .before .before .before .before .before in
+    let ceiling = c .before .before .before .before .before .before .before .before .before .before .before .before in
     let at = ceiling .before .before .before .before in
     let pre = start at .pre in
     let inv = at .loop .inv in
@@ -96,7 +97,7 @@ returns c =
     let here = turn (c .before) in
     let at = here .before in
     bursts _ _ _ _ (start at .pre .0 .sound) (ready at) _ _ _ (at .loop .inv .2) (omega (arith, here .loop-test .taken, at .loop .inv .0)) _
-    (c .before .before .before .before .before .before .before .before .before .before .before .before .before .before .before .word .ensures) _ _ _
+    (c .before .before .before .before .before .before .before .before .before .before .before .before .before .before .before .before .word .ensures) _ _ _
     (c .before .step .ensures .0) (c .if1 .taken)
 
 mul-store : tie.Need-mul-store Inv-loop μ-loop
@@ -126,8 +127,8 @@ loop-again c =
     let none = c .before .before .before .before .if1 .left in
     let here = turn step in
     let at = here .before in
-    let word = step .before .before .before .before .before .before .before .before .before .before .before .before .before .before in
-    let ceiling = step .before .before .before .before .before .before .before .before .before .before .before .before in (
+    let word = step .before .before .before .before .before .before .before .before .before .before .before .before .before .before .before in
+    let ceiling = step .before .before .before .before .before .before .before .before .before .before .before .before .before in (
       refl,
       omega (arith, here .loop-test .taken, at .loop .inv .0),
       rw add-one

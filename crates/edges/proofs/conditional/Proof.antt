@@ -2,7 +2,7 @@
 use mathlib.Core.Bool.{Bool, true, false, not, _&&_, or-false}
 use mathlib.Core.Logic.{⊎-elim}
 use mathlib.Core.Path.{_≡_, sym, ap, _∙_}
-use Prim.Native.Nat.{ℕ, _+_, _-_, _^_, _≤_, _<_}
+use Prim.Native.Nat.{ℕ, _+_, _-_, _*_, _^_, _≤_, _<_}
 use native.Mathlib.Omega.{arith}
 use lib.Dec.{eqb, ltb}
 use lib.ListN.{getD}
@@ -16,7 +16,7 @@ use Rattle.edges.proofs.conditional.Statement.{statement}
 use Rattle.edges.proofs.conditional.Tie as tie
 
 abbrev Inv-loop : tie.InvT-loop
-Inv-loop index n r₀ t₀ r t = (t ≤ n) × ((j : ℕ) → bit r j ≡ (ltb j t && not (eqb (getD index (448 + j) 0) 0)))
+Inv-loop index n r₀ t₀ r t = (t ≤ n) × ((j : ℕ) → bit r j ≡ (ltb j t && not (eqb (getD index (8 * j + 4) 0) 0)))
 
 abbrev μ-loop : tie.MeasureT-loop
 μ-loop index n r₀ t₀ r t = n - t
@@ -24,11 +24,14 @@ abbrev μ-loop : tie.MeasureT-loop
 loop-holds : tie.Need-loop-holds Inv-loop μ-loop
 loop-holds c = (omega arith, no-number _)
 
+mul-if1 : tie.Need-mul-if1 Inv-loop μ-loop
+mul-if1 c = search needs
+
 add-if1 : tie.Need-add-if1 Inv-loop μ-loop
 add-if1 c = search needs
 
-mul-if1 : tie.Need-mul-if1 Inv-loop μ-loop
-mul-if1 c = search needs
+mul-if1-2 : tie.Need-mul-if1-2 Inv-loop μ-loop
+mul-if1-2 c = search needs
 
 shared-slice-read-if1 : tie.Need-shared-slice-read-if1 Inv-loop μ-loop
 shared-slice-read-if1 c = search needs
@@ -47,7 +50,7 @@ loop-again c =
     let at = c .before .before .before .loop in
     let start = c .before .before .before .before .before in
     let low : at .t < 64 = omega (arith, c .before .before .loop-test .taken, start .pre .0 .1) in
-    let looks : ℕ → Bool = λ j. not (eqb (getD (start .args .index .now) (448 + j) 0) 0) in (
+    let looks : ℕ → Bool = λ j. not (eqb (getD (start .args .index .now) (8 * j + 4) 0) 0) in (
       omega arith,
       λ j. ⊎-elim
           (λ y. rw (y .2) (next-number looks j (at .t) {y = true} low (sym (ap not (ne-eqb _ 0 (y .0 .taken)))) (y .1 .ensures j) (at .inv .1 j)))
@@ -59,7 +62,7 @@ returns : tie.Need-returns Inv-loop μ-loop
 returns c t h =
     let at = c .before .loop in
     let given = c .before .before in
-    let word : getD (given .before .args .index .now) (448 + t) 0 < 2 ^ 64 = omega (arith, given .shared-slice-known .given (448 + t)) in
+    let word : getD (given .before .args .index .now) (8 * t + 4) 0 < 2 ^ 64 = omega (arith, given .shared-slice-known .given (8 * t + 4)) in
     ⊎-elim (λ (b : ltb t (at .t) ≡ true). at .inv .1 t ∙ rw b)
     (λ (b : ltb t (at .t) ≡ false).
     let past = given .before .pre .1 t in
@@ -74,8 +77,9 @@ conditional-spec =
     Inv-loop
     μ-loop
     loop-holds
-    add-if1
     mul-if1
+    add-if1
+    mul-if1-2
     shared-slice-read-if1
     with-requires
     add-t

@@ -1,4 +1,5 @@
--- The loop keeps that the rows passed span the tokens of their places, and that the others are as they were lent.
+-- The loop keeps that the rows passed span the tokens of their places, that the others are as they were lent, and that it is told of every place who lacks
+-- tokens there.
 use mathlib.Core.Bool.{Bool, true, false}
 use mathlib.Core.List.{List}
 use mathlib.Core.Path.{_≡_, refl, ap, _∙_}
@@ -8,8 +9,9 @@ use lib.Dec.{ltb, eqb}
 use lib.ListN.{length, getD, replicate, getD-replicate}
 use borrow.Author.Needs.{needs}
 use borrow.Author.Tests.{eqb-true, eqb-false, ltb-true, ltb-false}
-use Rattle.enabled.specs.Held.{Empty-from, Spans, Four, Moves-to, Levels}
-use Rattle.enabled.proofs.Held.{none-spans}
+use Rattle.sets.proofs.Bits.{bit-zero}
+use Rattle.enabled.specs.Held.{Empty-from, Spans, Four, Moves-to, Levels, Wanting}
+use Rattle.enabled.proofs.Held.{none-spans, but-one}
 use Rattle.enabled.proofs.hold.Statement.{statement}
 use Rattle.enabled.proofs.hold.Tie as tie
 
@@ -57,20 +59,21 @@ all-spanned index w s m held shown from upto n p none l four few passed to-come 
         (none-spans index w s q 0 2147483647 (none .no-arc q (omega (arith, past, l)) h) (none .no-action q (omega (arith, past, l)) h) (omega arith), omega arith, few q h)
 
 abbrev Inv-loop : tie.InvT-loop
-Inv-loop m index curbs w s n held₀ shown₀ from₀ upto₀ p₀ held shown from upto p =
+Inv-loop m index curbs w s n held₀ lacks₀ shown₀ from₀ upto₀ p₀ held lacks shown from upto p =
     (p ≤ n) × Four held shown from upto × ((q : ℕ) → q < p → Spanned index w s m held shown from upto q)
-    × ((q : ℕ) → p ≤ q → q < 128 → Lent held shown from upto q)
+    × ((q : ℕ) → p ≤ q → q < 128 → Lent held shown from upto q) × Wanting held curbs lacks
 
 abbrev μ-loop : tie.MeasureT-loop
-μ-loop m index curbs w s n held₀ shown₀ from₀ upto₀ p₀ held shown from upto p = n - p
+μ-loop m index curbs w s n held₀ lacks₀ shown₀ from₀ upto₀ p₀ held lacks shown from upto p = n - p
 
 loop-holds : tie.Need-loop-holds Inv-loop μ-loop
 loop-holds c =
-    let lent = c .pre .0 in (
+    let lent = c .before .pre .0 in (
       omega arith,
       (ap length (lent .0), ap length (lent .1), ap length (lent .2), ap length (lent .3)),
       λ q h. absurd (omega (arith, h)),
       λ q l h. (row (lent .0) q h, row (lent .1) q h, row (lent .2) q h, row (lent .3) q h),
+      record { size = ap length (lent .4); same = λ q t h l. rw (row (lent .4) q h, row (lent .0) q h, bit-zero t) },
     )
   where
     row : {rows : List ℕ} {k : ℕ} → rows ≡ replicate 128 k → (q : ℕ) → q < 128 → getD rows q 0 ≡ k
@@ -84,10 +87,12 @@ element-copy-out-relevel c = search needs
 
 relevel-requires : tie.Need-relevel-requires Inv-loop μ-loop
 relevel-requires c κs =
-    let at = c .before .before .before .before .before .before .loop in
-    let start = c .before .before .before .before .before .before .before in
-    let place : at .p < 128 = omega (arith, c .before .before .before .before .before .loop-test .taken, start .pre .1 .1 .0 .within) in
-    ((place, start .pre .1 .1 .1 (at .p) place), (start .pre .1 .0, at .inv .1))
+    let at = c .before .before .before .before .before .before .before .loop in
+    let start = c .before .before .before .before .before .before .before .before .before in
+    let next : at .p < start .args .n = c .before .before .before .before .before .before .loop-test .taken in
+    let place : at .p < 128 = omega (arith, next, start .pre .1 .1 .0 .within) in
+    let tables = start .pre .1 .0 in
+    ((place, start .pre .1 .1 .1 (at .p) place), ((tables .0, tables .1, omega (arith, next, tables .2), omega (arith, next, tables .3)), at .inv .1))
 
 add-p : tie.Need-add-p Inv-loop μ-loop
 add-p c = search needs
@@ -97,16 +102,18 @@ loop-less c = search needs
 
 loop-again : tie.Need-loop-again Inv-loop μ-loop
 loop-again c =
-    let at = c .before .before .before .before .before .before .before .loop in
-    let m = c .before .before .before .before .before .before .before .before .args .m .now in
-    let moves = c .relevel .ensures in
-    (omega arith, moves .sizes, passed m moves (at .inv .2), to-come m moves (at .inv .3))
+    let at = c .before .before .before .before .before .before .before .before .loop in
+    let m = c .before .before .before .before .before .before .before .before .before .before .args .m .now in
+    let moves = c .relevel .ensures .0 in
+    (omega arith, moves .sizes, passed m moves (at .inv .2), to-come m moves (at .inv .3), c .relevel .ensures .1 (but-one _ (at .inv .4)))
 
 returns : tie.Need-returns Inv-loop μ-loop
 returns c =
     let at = c .before .loop in
-    let start = c .before .before in
-    all-spanned _ _ _ (start .args .m .now) _ _ _ _ _ (at .p) (start .pre .1 .1 .0) (c .loop-test .left) (at .inv .1) (start .pre .1 .1 .1) (at .inv .2) (at .inv .3)
+    let start = c .before .before .before in (
+      all-spanned _ _ _ (start .args .m .now) _ _ _ _ _ (at .p) (start .pre .1 .1 .0) (c .loop-test .left) (at .inv .1) (start .pre .1 .1 .1) (at .inv .2) (at .inv .3),
+      at .inv .4,
+    )
 
 pub hold-spec : {M : Type 1} → statement M
 hold-spec =

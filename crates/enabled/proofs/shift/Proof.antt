@@ -6,6 +6,7 @@ use lib.Dec.{leb, ltb}
 use borrow.Author.Needs.{needs}
 use borrow.Author.Tests.{ltb-false, leb-false}
 use Rattle.meaning.proofs.Bool.{not-both}
+use Rattle.enabled.proofs.Held.{but-one}
 use Rattle.enabled.proofs.shift.Statement.{statement}
 use Rattle.enabled.proofs.shift.Tie as tie
 
@@ -26,21 +27,25 @@ outside-requires c κs = search needs
 
 relevel-requires : tie.Need-relevel-requires
 relevel-requires c κs =
-    let start = c .before .before .before .before .before .before .before .before in
+    let start = c .before .before .before .before .before .before .before .before .before .before in
     (start .pre .0, (start .pre .1 .0, start .pre .1 .1 .0))
 
 returns : tie.Need-returns
-returns c = search needs
+returns c =
+    let start = c .before .before .before .before .before .before .before .before .before .before .before in
+    (c .relevel .ensures .0, c .relevel .ensures .1 (but-one _ (start .pre .1 .1 .1 .1)))
 
 returns-2 : tie.Need-returns-2
 returns-2 c =
-    let start = c .before .before .before .before in
-    record {
-      sizes = start .pre .1 .1 .0;
-      spans = start .pre .1 .1 .1;
-      inside = stays _ _ _ (sym (c .before .outside .ensures) ∙ c .if1 .left);
-      others = λ q apart. (refl, refl, refl, refl);
-    }
+    let start = c .before .before .before .before .before in (
+      record {
+        sizes = start .pre .1 .1 .0;
+        spans = start .pre .1 .1 .1 .0;
+        inside = stays _ _ _ (sym (c .before .outside .ensures) ∙ c .if1 .left);
+        others = λ q apart. (refl, refl, refl, refl);
+      },
+      start .pre .1 .1 .1 .1,
+    )
   where
     stays : (k from upto : ℕ) → (ltb k from || leb upto k) ≡ false → (from ≤ k) × (k < upto)
     stays k from upto e = go (ltb k from) refl e

@@ -15,16 +15,16 @@ use Rattle.enabled.proofs.timed.Statement.{statement}
 use Rattle.enabled.proofs.timed.Tie as tie
 
 abbrev Inv-loop : tie.InvT-loop
-Inv-loop n sorts r₀ t₀ r t = (t ≤ n) × ((j : ℕ) → bit r j ≡ (ltb j t && not (eqb (getD sorts j 0) 0)))
+Inv-loop sorts n r₀ t₀ r t = (t ≤ n) × ((j : ℕ) → bit r j ≡ (ltb j t && not (eqb (getD sorts j 0) 0)))
 
 abbrev μ-loop : tie.MeasureT-loop
-μ-loop n sorts r₀ t₀ r t = n - t
+μ-loop sorts n r₀ t₀ r t = n - t
 
 loop-holds : tie.Need-loop-holds Inv-loop μ-loop
-loop-holds c = (omega arith, λ j. no-number (λ k. not (eqb (getD (c .before .args .x .sorts) k 0) 0)) j)
+loop-holds c = (omega arith, λ j. no-number (λ k. not (eqb (getD (c .args .sorts .now) k 0) 0)) j)
 
-array-read-with-if : tie.Need-array-read-with-if Inv-loop μ-loop
-array-read-with-if c = search needs
+element-copy-out-with-if : tie.Need-element-copy-out-with-if Inv-loop μ-loop
+element-copy-out-with-if c = search needs
 
 with-if-requires : tie.Need-with-if-requires Inv-loop μ-loop
 with-if-requires c κs = search needs
@@ -37,21 +37,22 @@ loop-less c = search needs
 
 loop-again : tie.Need-loop-again Inv-loop μ-loop
 loop-again c =
-    let at = c .before .before .loop in
-    let low : at .t < 64 = omega (arith, c .before .loop-test .taken) in (
+    let turn = c .before .before in
+    let at = turn .before .loop in
+    let low : at .t < 64 = omega (arith, turn .loop-test .taken) in (
       omega arith,
       λ j.
-          next-number (λ k. not (eqb (getD (c .before .before .before .before .args .x .sorts) k 0) 0)) j (at .t) low refl
+          next-number (λ k. not (eqb (getD (turn .before .before .args .sorts .now) k 0) 0)) j (at .t) low refl
           (c .with-if .ensures j) (at .inv .1 j),
     )
 
 returns : tie.Need-returns Inv-loop μ-loop
 returns c j h =
     let at = c .before .loop in
-    let start = c .before .before .before in
+    let start = c .before .before in
     at .inv .1 j
-    ∙ below-end (at .t) (λ k. not (eqb (getD (start .args .x .sorts) k 0) 0)) j
+    ∙ below-end (at .t) (λ k. not (eqb (getD (start .args .sorts .now) k 0) 0)) j
     (λ past. ap not (eq-eqb _ 0 (start .pre .1 j (omega (arith, past)) h)))
 
 pub timed-spec : {M : Type 1} → statement M
-timed-spec = tie.close (tie.spec Inv-loop μ-loop loop-holds array-read-with-if with-if-requires add-t loop-less loop-again returns)
+timed-spec = tie.close (tie.spec Inv-loop μ-loop loop-holds element-copy-out-with-if with-if-requires add-t loop-less loop-again returns)

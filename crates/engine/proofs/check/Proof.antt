@@ -1,12 +1,13 @@
--- `engine::check` meets its contract: the length first, then what the stages judge.
-use mathlib.Core.Path.{refl, sym}
+-- `engine::check` meets its contract: the length first, then as many rows as the table's extent and its length ask for.
+use mathlib.Core.Bool.{false}
+use mathlib.Core.Path.{_≡_, sym}
+use borrow.Author.Needs.{needs}
+use Rattle.meaning.specs.Table.{table}
+use Rattle.meaning.specs.Defined.{bad-length}
+use Rattle.table.specs.Index.{extent-of}
 use Rattle.engine.proofs.Stages.{length-odd, length-long, length-right, answer-1}
 use Rattle.engine.proofs.check.Statement.{statement}
 use Rattle.engine.proofs.check.Tie as tie
-
--- From the arrays lent to the pass back to the length, found right.
-abbrev right : tie.After-next → tie.Else2
-right c = c .before .before .before .before .before .before .before .before
 
 returns : tie.Need-returns
 returns c = record { answer-is = sym (answer-1 _ (length-odd _ (c .if1 .taken))) }
@@ -14,21 +15,56 @@ returns c = record { answer-is = sym (answer-1 _ (length-odd _ (c .if1 .taken)))
 returns-2 : tie.Need-returns-2
 returns-2 c = record { answer-is = sym (answer-1 _ (length-long _ (c .if2 .taken))) }
 
-scan-requires : tie.Need-scan-requires
-scan-requires c κs = (
-  right c .if2 .left,
-  (refl, record { no-takers = refl; no-truths = refl; no-sorts = refl; no-a = refl; no-b = refl; no-heads = refl; many-links = refl }),
-)
+extent-requires : tie.Need-extent-requires
+extent-requires c κs = search needs
 
-judge-requires : tie.Need-judge-requires
-judge-requires c κs =
-    let passed = c .before .before .before .before .before .before .before in
-    let found = passed .scan .ensures in
-    let fits = right (passed .before) in
-    (length-right _ (fits .before .if1 .left) (fits .if2 .left), (found .0, (found .1 .0, (found .1 .1 .wanting, (refl, refl)))))
+-- The length is right, and the extent is known.
+known : (c : tie.After-extent) → let bs = c .before .before .before .before .args .t .now in
+    (bad-length bs ≡ false) × (c .extent .result ≡ extent-of (table bs))
+known c = (length-right _ (c .before .before .if1 .left) (c .before .if2 .left), c .extent .ensures)
+
+holds-requires : tie.Need-holds-requires
+holds-requires c κs = search needs
+
+check-small-requires : tie.Need-check-small-requires
+check-small-requires c κs =
+    let k = known (c .before .before) in
+    let enough = c .before .holds .ensures (c .if3 .taken) in
+    (k .0, (k .1, enough .0, enough .1))
 
 returns-3 : tie.Need-returns-3
-returns-3 c = record { answer-is = c .judge .ensures .answer }
+returns-3 c = search needs
+
+holds-requires-2 : tie.Need-holds-requires-2
+holds-requires-2 c κs = search needs
+
+check-middle-requires : tie.Need-check-middle-requires
+check-middle-requires c κs =
+    let k = known (c .before .before .before .before) in
+    let enough = c .before .holds2 .ensures (c .if4 .taken) in
+    (k .0, (k .1, enough .0, enough .1))
+
+returns-4 : tie.Need-returns-4
+returns-4 c = search needs
+
+check-large-requires : tie.Need-check-large-requires
+check-large-requires c κs = known (c .before .before .before .before)
+
+returns-5 : tie.Need-returns-5
+returns-5 c = search needs
 
 pub check-spec : {M : Type 1} → statement M
-check-spec = tie.close (tie.spec returns returns-2 scan-requires judge-requires returns-3)
+check-spec =
+    tie.close
+    (tie.spec
+    returns
+    returns-2
+    extent-requires
+    holds-requires
+    check-small-requires
+    returns-3
+    holds-requires-2
+    check-middle-requires
+    returns-4
+    check-large-requires
+    returns-5)

@@ -19,11 +19,11 @@ less-requires c κs = search needs
 
 loop-holds : tie.Need-loop-holds Inv-loop μ-loop
 loop-holds c =
-    let start = c .before in
+    let start = c .before .before in
     let a = start .args in (
       omega arith,
       omega arith,
-      at-start (a .able) (a .higher .now) (a .m .now) (a .w .now) (a .s .now) (a .takers .now) (a .low .now) (a .high .now) (a .lower) (start .pre .1)
+      at-start (a .able) (a .higher .now) (a .m .now) (a .w .now) (a .s .now) (a .takers .now) (a .low .now) (a .high .now) (a .lower) (start .pre .1 .0)
           (c .less .result) (omega arith) (c .less .ensures) (start .pre .0),
     )
 
@@ -31,7 +31,7 @@ returns : tie.Need-returns Inv-loop μ-loop
 returns c = at-end (c .before .before .loop .inv .2) (λ t h. rw (c .if1 .taken) (bit-zero t))
 
 one-round-requires : tie.Need-one-round-requires Inv-loop μ-loop
-one-round-requires c κs = search needs
+one-round-requires c κs = c .before .before .before .before .before .pre .1 .1
 
 add-k : tie.Need-add-k Inv-loop μ-loop
 add-k c = omega arith

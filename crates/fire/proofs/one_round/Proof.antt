@@ -29,7 +29,7 @@ abbrev μ-loop : tie.MeasureT-loop
 
 loop-holds : tie.Need-loop-holds Inv-loop μ-loop
 loop-holds c =
-    let a = c .args in
+    let a = c .before .args in
     (omega arith, λ t e. e, none-passed 0 (a .left) _, none-passed (a .out) (a .left) _)
 
 lowest-requires : tie.Need-lowest-requires Inv-loop μ-loop
@@ -65,7 +65,10 @@ element-copy-out-decide-2 : tie.Need-element-copy-out-decide-2 Inv-loop μ-loop
 element-copy-out-decide-2 c = member (c .before .before .before .before) .0
 
 decide-requires : tie.Need-decide-requires Inv-loop μ-loop
-decide-requires c κs = member (c .before .before .before .before .before) .0
+decide-requires c κs =
+    let taken = c .before .before .before .before .before in
+    let k = member taken in
+    (k .0, taken .before .before .before .before .pre (taken .lowest .result) (k .0))
 
 with-requires-2 : tie.Need-with-requires-2 Inv-loop μ-loop
 with-requires-2 c κs = search needs
@@ -83,7 +86,7 @@ loop-again : tie.Need-loop-again Inv-loop μ-loop
 loop-again c =
     let taken = c .before .before .before .before in
     let at = taken .before .before .loop in
-    let a = taken .before .before .before .args in
+    let a = taken .before .before .before .before .args in
     let k = member taken in
     let t : ℕ = taken .lowest .result in
     let inside : (j : ℕ) → bit (at .todo) j ≡ true → bit (a .left) j ≡ true = at .inv .1 in
@@ -125,7 +128,7 @@ loop-again c =
 
 returns : tie.Need-returns Inv-loop μ-loop
 returns c =
-    let a = c .before .before .args in
+    let a = c .before .before .before .args in
     let at = c .before .loop in
     record {
       waits = λ t h. all-passed 0 (a .left) (at .todo) _ (at .keep) (c .loop-test .left) (at .inv .2) t h ∙ rw (bit-zero t);

@@ -31,12 +31,13 @@ abbrev μ-loop : tie.MeasureT-loop
 μ-loop higher takers low high rows₀ n lower₀ t₀ rows lower t = n - t
 
 loop-holds : tie.Need-loop-holds Inv-loop μ-loop
-loop-holds c = (
-  omega arith,
-  rw (c .pre .1) (length-replicate {A = ℕ} 64 0),
-  λ u i. rw (le-ltb i 0 (omega arith)),
-  λ i. no-number (λ k. some 64 (rival (c .args .higher .now) (c .args .takers .now) (c .args .low .now) (c .args .high .now) k)) i,
-)
+loop-holds c =
+    let a = c .before .args in (
+      omega arith,
+      rw (c .before .pre .1) (length-replicate {A = ℕ} 64 0),
+      λ u i. rw (le-ltb i 0 (omega arith)),
+      λ i. no-number (λ k. some 64 (rival (a .higher .now) (a .takers .now) (a .low .now) (a .high .now) k)) i,
+    )
 
 mul-rivals-of : tie.Need-mul-rivals-of Inv-loop μ-loop
 mul-rivals-of c = search needs
@@ -78,10 +79,10 @@ loop-again : tie.Need-loop-again Inv-loop μ-loop
 loop-again c =
     let in-loop = c .before .before .before .before .before in
     let at = in-loop .before .loop in
-    let a = in-loop .before .before .args in
+    let a = in-loop .before .before .before .args in
     let row = c .before .rivals-of in
     let mine : ℕ → ℕ → Bool = rival (a .higher .now) (a .takers .now) (a .low .now) (a .high .now) in
-    let low : at .t < 64 = omega (arith, in-loop .loop-test .taken, in-loop .before .before .pre .0 .most) in
+    let low : at .t < 64 = omega (arith, in-loop .loop-test .taken, in-loop .before .before .before .pre .0 .most) in
     let has : not (eqb (row .result) 0) ≡ some 64 (mine (at .t)) =
     ap not (zero-set (row .result) (omega arith)) ∙ Bool·not-not (some 64 (bit (row .result))) ∙ some-same 64 _ _ (λ u l. row .ensures u) in (
       omega arith,
@@ -93,7 +94,7 @@ loop-again c =
 returns : tie.Need-returns Inv-loop μ-loop
 returns c =
     let at = c .before .loop in
-    let start = c .before .before in
+    let start = c .before .before .before in
     let a = start .args in
     let mine : ℕ → ℕ → Bool = rival (a .higher .now) (a .takers .now) (a .low .now) (a .high .now) in
     -- From n on a transition has no rivals.

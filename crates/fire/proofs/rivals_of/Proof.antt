@@ -23,7 +23,7 @@ union-requires c κs = search needs
 
 returns-2 : tie.Need-returns-2
 returns-2 c u =
-    let a = c .before .before .before .before .args in
+    let a = c .before .before .before .before .before .args in
     bit-and (a .above) (c .union .result) u
     ∙ ap (λ (b : Bool). bit (a .above) u && b)
     (c .union .ensures u

@@ -43,14 +43,11 @@ member : (c : tie.After-lowest Inv-loop μ-loop) → (c .lowest .result < 64) ×
 member c =
     lowest-in (c .before .before .loop .left) (c .lowest .result) (c .before .before .loop .inv .0) (c .before .loop-test .taken) (c .lowest .ensures)
 
-add-union : tie.Need-add-union Inv-loop μ-loop
-add-union c = omega (arith, member c .0)
+add-line : tie.Need-add-line Inv-loop μ-loop
+add-line c = omega (arith, member c .0)
 
-mul-union : tie.Need-mul-union Inv-loop μ-loop
-mul-union c = omega (arith, member c .0)
-
-element-copy-out-union : tie.Need-element-copy-out-union Inv-loop μ-loop
-element-copy-out-union c = omega (arith, member c .0)
+line-requires : tie.Need-line-requires Inv-loop μ-loop
+line-requires c κs = search needs
 
 union-requires : tie.Need-union-requires Inv-loop μ-loop
 union-requires c κs = search needs
@@ -68,12 +65,12 @@ loop-again : tie.Need-loop-again Inv-loop μ-loop
 loop-again c =
     let taken = c .before .before .before in
     let at = taken .before .before .loop in
-    let a = taken .before .before .before .args in
+    let a = taken .before .before .before .before .args in
     let k = member taken in (
       omega arith,
       λ u.
           let f : ℕ → Bool = λ p. bit (getD (a .takers .now) (a .from + p) 0) u in
-          rw (c .before .union .ensures u)
+          rw (c .before .union .ensures u, c .before .before .line .ensures)
           (or-assoc (bit (at .all) u) (f (taken .lowest .result)) _
           ∙ ap (λ (x : Bool). bit (at .all) u || x) (asked (at .left) _ (c .rest .result) f (k .0) (k .1) (λ j. rw (taken .lowest .ensures) (c .rest .ensures j)))
           ∙ at .inv .1 u),
@@ -92,9 +89,8 @@ takers-from-spec =
     μ-loop
     loop-holds
     lowest-requires
-    add-union
-    mul-union
-    element-copy-out-union
+    add-line
+    line-requires
     union-requires
     rest-requires
     loop-less

@@ -1,124 +1,97 @@
--- `save` meets its contract: each turn makes one more record that of the state, first the places', then the transitions'.
-use mathlib.Core.Path.{_≡_, sym, _∙_}
-use Prim.Native.Nat.{_+_, _≤_, _-_}
+-- `save` meets its contract: what is left are the reset orders still to be put in, and the bytes are the image of the state without these.
+use mathlib.Core.Bool.{true, not, _&&_}
+use mathlib.Core.List.{List}
+use mathlib.Core.Path.{_≡_, refl, sym, ap, _∙_}
+use Prim.Native.Nat.{ℕ, _+_, _*_, _^_, _<_}
 use native.Mathlib.Omega.{arith}
+use lib.Dec.{eqb}
+use lib.ListN.{length, set}
 use borrow.Author.Needs.{needs}
-use Rattle.meaning.specs.Image.{image-bytes}
+use Rattle.meaning.specs.Bytes.{bit}
+use Rattle.meaning.specs.Image.{State, image-bytes}
+use Rattle.meaning.proofs.Bool.{and-left}
+use Rattle.meaning.proofs.Image.{image-length}
+use Rattle.sets.proofs.Members.{lowest-in, falls}
 use Rattle.image.specs.Held.{held}
-use Rattle.image.proofs.Write.{Upto, upto-none, upto-place, upto-transition, upto-all}
+use Rattle.image.proofs.Write.{but, but-all, but-none, but-one}
 use Rattle.image.proofs.save.Statement.{statement}
 use Rattle.image.proofs.save.Tie as tie
 
 abbrev Inv-loop : tie.InvT-loop
-Inv-loop bytes₀ tokens counters orders p₀ bytes p =
-    (p ≤ 128) × Upto (image-bytes (held (record { tokens = tokens; counters = counters; orders = orders }))) p bytes
+Inv-loop bytes₀ tokens counters orders left₀ bytes left =
+    (left < 2 ^ 64) × ((t : ℕ) → bit left t ≡ true → bit orders t ≡ true)
+    × (bytes ≡ image-bytes (but (held (record { tokens = tokens; counters = counters; orders = orders })) left))
 
 abbrev μ-loop : tie.MeasureT-loop
-μ-loop bytes₀ tokens counters orders p₀ bytes p = 128 - p
+μ-loop bytes₀ tokens counters orders left₀ bytes left = left
 
-abbrev Inv-loop2 : tie.InvT-loop2
-Inv-loop2 bytes₀ tokens counters orders p t₀ bytes t =
-    (t ≤ 64) × Upto (image-bytes (held (record { tokens = tokens; counters = counters; orders = orders }))) (128 + t) bytes
+-- The way back from the loop to the start, and from a member to the loop.
+abbrev begun : tie.At-loop Inv-loop μ-loop → tie.Start Inv-loop μ-loop
+begun c = c .before .before .before .before .before .before
 
-abbrev μ-loop2 : tie.MeasureT-loop2
-μ-loop2 bytes₀ tokens counters orders p t₀ bytes t = 64 - t
+abbrev turn : tie.After-lowest Inv-loop μ-loop → tie.In-loop Inv-loop μ-loop
+turn c = c .before .before
 
-loop-holds : tie.Need-loop-holds Inv-loop μ-loop Inv-loop2 μ-loop2
-loop-holds c = (omega arith, upto-none _ _ (c .before .pre .0))
+plain-requires : tie.Need-plain-requires Inv-loop μ-loop
+plain-requires c κs =
+    let pre = c .before .before .pre in
+    (pre .0, record { tokens = pre .1 .tokens; counters = pre .1 .counters })
 
-mul-store : tie.Need-mul-store Inv-loop μ-loop Inv-loop2 μ-loop2
-mul-store c = search needs
+loop-holds : tie.Need-loop-holds Inv-loop μ-loop
+loop-holds c =
+    let a = c .before .before .before .before .before .args in
+    let s : State = held (record { tokens = a .tokens .now; counters = a .counters .now; orders = a .orders }) in
+    (omega arith, λ t e. e, c .before .before .plain .ensures ∙ but-all s (a .orders) (λ t. refl))
 
-element-copy-out-store : tie.Need-element-copy-out-store Inv-loop μ-loop Inv-loop2 μ-loop2
-element-copy-out-store c = search needs
+lowest-requires : tie.Need-lowest-requires Inv-loop μ-loop
+lowest-requires c κs = search needs
 
-store-requires : tie.Need-store-requires Inv-loop μ-loop Inv-loop2 μ-loop2
-store-requires c κs = (c .before .before .before .loop .inv .1 .long, omega arith)
+-- The member that is taken is below 64, and in what is left.
+member : (c : tie.After-lowest Inv-loop μ-loop) → (c .lowest .result < 64) × (bit (turn c .before .loop .left) (c .lowest .result) ≡ true)
+member c =
+    let at = turn c .before .loop in
+    lowest-in (at .left) (c .lowest .result) (at .inv .0) (turn c .loop-test .taken) (c .lowest .ensures)
 
-add-p : tie.Need-add-p Inv-loop μ-loop Inv-loop2 μ-loop2
-add-p c = search needs
+order-requires : tie.Need-order-requires Inv-loop μ-loop
+order-requires c κs = (ap length (turn c .before .loop .inv .2) ∙ image-length _, member c .0)
 
-loop-less : tie.Need-loop-less Inv-loop μ-loop Inv-loop2 μ-loop2
-loop-less c = search needs
+rest-requires : tie.Need-rest-requires Inv-loop μ-loop
+rest-requires c κs = search needs
 
-loop-again : tie.Need-loop-again Inv-loop μ-loop Inv-loop2 μ-loop2
+-- What the rest is: all that is left but the member.
+taken : (c : tie.After-rest Inv-loop μ-loop) → let lowest = c .before .before .before .before in
+    (j : ℕ) → bit (c .rest .result) j ≡ (bit (turn lowest .before .loop .left) j && not (eqb (lowest .lowest .result) j))
+taken c j =
+    let lowest = c .before .before .before .before in
+    c .rest .ensures j ∙ ap (λ (k : ℕ). bit (turn lowest .before .loop .left) j && not (eqb k j)) (sym (lowest .lowest .ensures))
+
+loop-less : tie.Need-loop-less Inv-loop μ-loop
+loop-less c =
+    let lowest = c .before .before .before .before in
+    let at = turn lowest .before .loop in
+    falls (at .left) (lowest .lowest .result) (c .rest .result) (taken c) (at .inv .0) (omega arith) (member lowest .1)
+
+loop-again : tie.Need-loop-again Inv-loop μ-loop
 loop-again c =
-    let at = c .before .before .before .before .before .before .loop in
-    let start = c .before .before .before .before .before .before .before .before in
-    (omega arith, upto-place _ _ _ (at .p) (omega arith) (start .pre .1 .tokens (at .p) (omega arith)) (at .inv .1) (c .before .before .store .ensures))
-
-loop2-holds : tie.Need-loop2-holds Inv-loop μ-loop Inv-loop2 μ-loop2
-loop2-holds c =
-    let all : c .before .loop .p ≡ 128 + 0 = omega arith in
-    (omega arith, rw all at (c .before .loop .inv .1))
-
-add-store : tie.Need-add-store Inv-loop μ-loop Inv-loop2 μ-loop2
-add-store c = search needs
-
-mul-store-2 : tie.Need-mul-store-2 Inv-loop μ-loop Inv-loop2 μ-loop2
-mul-store-2 c = search needs
-
-element-copy-out-store-2 : tie.Need-element-copy-out-store-2 Inv-loop μ-loop Inv-loop2 μ-loop2
-element-copy-out-store-2 c = search needs
-
-mark-requires : tie.Need-mark-requires Inv-loop μ-loop Inv-loop2 μ-loop2
-mark-requires c κs = search needs
-
-add-store-2 : tie.Need-add-store-2 Inv-loop μ-loop Inv-loop2 μ-loop2
-add-store-2 c =
-    let t = c .before .before .before .before .loop2 .t in
-    let start = c .before .before .before .before .before .before .before .before in
-    omega (arith, start .pre .1 .counters t (omega arith), c .mark .ensures .1)
-
-store-requires-2 : tie.Need-store-requires-2 Inv-loop μ-loop Inv-loop2 μ-loop2
-store-requires-2 c κs = (c .before .before .before .before .loop2 .inv .1 .long, omega arith)
-
-add-t : tie.Need-add-t Inv-loop μ-loop Inv-loop2 μ-loop2
-add-t c = search needs
-
-loop2-less : tie.Need-loop2-less Inv-loop μ-loop Inv-loop2 μ-loop2
-loop2-less c = search needs
-
-loop2-again : tie.Need-loop2-again Inv-loop μ-loop Inv-loop2 μ-loop2
-loop2-again c =
-    let at = c .before .before .before .before .before .before .before .loop2 in
-    let start = c .before .before .before .before .before .before .before .before .before .before .before in (
+    let lowest = c .before .before .before .before in
+    let at = turn lowest .before .loop in
+    let a = begun (turn lowest .before) .args in
+    let s : State = held (record { tokens = a .tokens .now; counters = a .counters .now; orders = a .orders }) in (
       omega arith,
-      upto-transition _ _ _ (at .t) _ (omega arith) (start .pre .1 .counters (at .t) (omega arith)) (c .before .before .before .mark .ensures .0) (at .inv .1) (c .before .before .store2 .ensures),
+      λ t e. at .inv .1 t (and-left (bit (at .left) t) _ (sym (taken c t) ∙ e)),
+      c .before .before .before .order .ensures
+          ∙ ap (λ (bs : List ℕ). set bs (4 * (128 + lowest .lowest .result) + 2) 1) (at .inv .2)
+          ∙ but-one s (at .left) (c .rest .result) (lowest .lowest .result) (member lowest .0) (at .inv .1 _ (member lowest .1)) (member lowest .1) (taken c),
     )
 
-same-length : tie.Need-same-length Inv-loop μ-loop Inv-loop2 μ-loop2
-same-length c = c .before .loop2 .inv .1 .long ∙ sym (c .before .before .before .before .before .pre .0)
+same-length : tie.Need-same-length Inv-loop μ-loop
+same-length c = ap length (c .before .loop .inv .2) ∙ image-length _ ∙ sym (begun (c .before) .pre .0)
 
-returns : tie.Need-returns Inv-loop μ-loop Inv-loop2 μ-loop2
+returns : tie.Need-returns Inv-loop μ-loop
 returns c =
-    let all : 128 + c .before .loop2 .t ≡ 192 = omega arith in
-    upto-all _ _ (rw all at (c .before .loop2 .inv .1))
+    let a = begun (c .before) .args in
+    let s : State = held (record { tokens = a .tokens .now; counters = a .counters .now; orders = a .orders }) in
+    c .before .loop .inv .2 ∙ but-none s (c .before .loop .left) (c .loop-test .left)
 
 pub save-spec : {M : Type 1} → statement M
-save-spec =
-    tie.close
-    (tie.spec
-    Inv-loop
-    μ-loop
-    Inv-loop2
-    μ-loop2
-    loop-holds
-    mul-store
-    element-copy-out-store
-    store-requires
-    add-p
-    loop-less
-    loop-again
-    loop2-holds
-    add-store
-    mul-store-2
-    element-copy-out-store-2
-    mark-requires
-    add-store-2
-    store-requires-2
-    add-t
-    loop2-less
-    loop2-again
-    same-length
-    returns)
+save-spec = tie.close (tie.spec Inv-loop μ-loop plain-requires loop-holds lowest-requires order-requires rest-requires loop-less loop-again same-length returns)

@@ -1,5 +1,5 @@
--- `follow` meets its contract: what is moved and what the chain still has to move is what was moved and what u moves, and so with whom the places of the
--- arcs hold back; the chain is walked arc by arc.
+-- `follow` meets its contract: what is moved and what the chain still has to move is what was moved and what u moves, and so with who lacks tokens at the
+-- places of the arcs; the chain is walked arc by arc.
 use mathlib.Core.Bool.{Bool, true, false, _||_}
 use mathlib.Core.List.{List}
 use mathlib.Core.Path.{_≡_, refl, sym, ap, ap₂, _∙_}
@@ -18,7 +18,7 @@ use Rattle.net.proofs.Links.{link-le, link-passes}
 use Rattle.moves.specs.Tallied.{moved-by}
 use Rattle.moves.proofs.Turns.{Tallying, done, retold, turned, in-range, room}
 use Rattle.moves.proofs.Pending.{pending, chain-begins, chain-ends, chain-goes-on, chain-passed}
-use Rattle.moves.proofs.Somewhere.{lacked, lacks, somewhere-same, somewhere-one, gathers, all-gathered}
+use Rattle.moves.proofs.Somewhere.{lacked, lacks-at, somewhere-same, somewhere-one, gathers, all-gathered}
 use Rattle.moves.proofs.follow.Statement.{statement}
 use Rattle.moves.proofs.follow.Tie as tie
 
@@ -36,21 +36,24 @@ at-link tb sort u n at h e =
     record { inside = omega (arith, e, link-le n (arc-of tb sort u)); own = λ r z. link-passes n (arc-of tb sort u) r (sym e ∙ z) }
 
 abbrev Inv-loop : tie.InvT-loop
-Inv-loop t moved₀ held curbs heads next u sort all lack₀ link₀ moved lack at =
+Inv-loop t moved₀ lacks heads next u sort all lack₀ link₀ moved lack at =
     At (table t) sort u at × Tallying (table t) sort (goal (table t) sort u moved₀) (pending (table t) u at) moved
-    × ((j : ℕ) → (bit lack j || lacks (table t) sort held curbs (pending (table t) u at) j)
-    ≡ (bit all j || lacks (table t) sort held curbs (λ k. eqb u (table t .two k)) j))
+    × ((j : ℕ) → (bit lack j || lacks-at (table t) sort lacks (pending (table t) u at) j)
+    ≡ (bit all j || lacks-at (table t) sort lacks (λ k. eqb u (table t .two k)) j))
 
 abbrev μ-loop : tie.MeasureT-loop
-μ-loop t moved₀ held curbs heads next u sort all lack₀ link₀ moved lack at = at
+μ-loop t moved₀ lacks heads next u sort all lack₀ link₀ moved lack at = at
 
 wide-requires : tie.Need-wide-requires Inv-loop μ-loop
 wide-requires c κs = search needs
 
+abbrev started : tie.After-wide Inv-loop μ-loop → tie.Start Inv-loop μ-loop
+started c = c .before .before .before
+
 -- The row of the sort has a place for u.
-in-row : (c : tie.After-wide Inv-loop μ-loop) → 64 * c .wide .result + c .before .before .args .u < 256
+in-row : (c : tie.After-wide Inv-loop μ-loop) → 64 * c .wide .result + started c .args .u < 256
 in-row c =
-    let pre = c .before .before .pre .1 .1 in
+    let pre = started c .pre .1 .1 in
     omega (arith, c .wide .ensures, pre .0, pre .1)
 
 mul-count : tie.Need-mul-count Inv-loop μ-loop
@@ -73,13 +76,13 @@ loop-holds : tie.Need-loop-holds Inv-loop μ-loop
 unfolding total
 loop-holds c =
     let row = c .before .before in
-    let start = row .before .before in
+    let start = started row in
     let a = start .args in
     let tb : Table = table (a .t .now) in
     let known = start .pre .1 .1 in
     let first : c .count .result ≡ link (tb .records) (arc-of tb (a .sort) (a .u)) =
     c .count .ensures ∙ ap (λ (s : ℕ). getD (a .heads .now) (64 * s + a .u) 0) (row .wide .ensures)
-    ∙ start .pre .1 .0 .begins (a .sort) (a .u) (known .1) (known .0) in
+    ∙ start .pre .1 .0 .0 .begins (a .sort) (a .u) (known .1) (known .0) in
     let own : ℕ → Bool = λ k. eqb (a .u) (tb .two k) in
     let to-come : (k : ℕ) → k < tb .records → arc tb (a .sort) k ≡ true → own k ≡ pending tb (a .u) (c .count .result) k =
     λ k h here. rw first (chain-begins tb (a .sort) (a .u) k h here) in (
@@ -88,7 +91,7 @@ loop-holds c =
           (pending tb (a .u) (c .count .result)) to-come,
       λ j.
           ap (λ (b : Bool). bit (a .all) j || b)
-          (sym (somewhere-same tb (a .sort) (lacked (a .held .now) (a .curbs .now) j) own (pending tb (a .u) (c .count .result)) to-come)),
+          (sym (somewhere-same tb (a .sort) (lacked (a .lacks .now) j) own (pending tb (a .u) (c .count .result)) to-come)),
     )
 
 sub-r : tie.Need-sub-r Inv-loop μ-loop
@@ -115,25 +118,28 @@ own-at tb sort u at x n =
       two-is = eqb-true (tb .two r) u (and-right (arc tb sort r) (eqb (tb .two r) u) own);
     }
 
+abbrev begun : tie.In-loop Inv-loop μ-loop → tie.Start Inv-loop μ-loop
+begun c = started (c .before .before .before .before)
+
 -- So it is in the loop.
 here : (c : tie.In-loop Inv-loop μ-loop)
-    → let a = c .before .before .before .before .before .before .args in
+    → let a = begun c .args in
     Own (table (a .t .now)) (a .sort) (a .u) (c .before .loop .link)
 here c =
-    let a = c .before .before .before .before .before .before .args in
+    let a = begun c .args in
     own-at (table (a .t .now)) (a .sort) (a .u) (c .before .loop .link) (c .before .loop .inv .0) (c .loop-test .taken)
 
 -- Its place is one of 128, and the record one of at most 1,024.
 module _ (c : tie.In-loop Inv-loop μ-loop) where
-  near : table (c .before .before .before .before .before .before .args .t .now) .one (c .before .loop .link - 1) < 128
+  near : table (begun c .args .t .now) .one (c .before .loop .link - 1) < 128
   near =
-      let start = c .before .before .before .before .before .before in
+      let start = begun c in
       let o = here c in
       in-range (start .args .t .now) (start .pre .0) (start .args .sort) (c .before .loop .link - 1) (o .inside) (o .sort-is) .0
 
   low : c .before .loop .link - 1 < 1024
   low =
-      let start = c .before .before .before .before .before .before in
+      let start = begun c in
       omega (arith, here c .inside, few-records (start .args .t .now) (start .pre .0))
 
 place-requires : tie.Need-place-requires Inv-loop μ-loop
@@ -142,7 +148,7 @@ place-requires c κs = here c .inside
 add-arc-requires : tie.Need-add-arc-requires Inv-loop μ-loop
 add-arc-requires c κs =
     let in-loop = c .before .before in
-    let start = in-loop .before .before .before .before .before .before in
+    let start = begun in-loop in
     let a = start .args in
     let at = in-loop .before .loop in
     let tb : Table = table (a .t .now) in
@@ -155,74 +161,67 @@ add-arc-requires c κs =
 placed : (c : tie.After-place Inv-loop μ-loop) → c .place .result < 128
 placed c = omega (arith, c .place .ensures, near (c .before))
 
-mul-less : tie.Need-mul-less Inv-loop μ-loop
-mul-less c = omega (arith, placed (c .before .before))
+mul-union : tie.Need-mul-union Inv-loop μ-loop
+mul-union c = omega (arith, placed (c .before .before))
 
-element-copy-out-less : tie.Need-element-copy-out-less Inv-loop μ-loop
-element-copy-out-less c = placed (c .before .before)
-
-mul-less-2 : tie.Need-mul-less-2 Inv-loop μ-loop
-mul-less-2 c = omega (arith, placed (c .before .before .before))
-
-element-copy-out-less-2 : tie.Need-element-copy-out-less-2 Inv-loop μ-loop
-element-copy-out-less-2 c = placed (c .before .before .before)
-
-less-requires : tie.Need-less-requires Inv-loop μ-loop
-less-requires c κs = search needs
+element-copy-out-union : tie.Need-element-copy-out-union Inv-loop μ-loop
+element-copy-out-union c = placed (c .before .before)
 
 union-requires : tie.Need-union-requires Inv-loop μ-loop
 union-requires c κs = search needs
 
 -- Where the turn of a union asked for the place of its arc.
 abbrev asked : tie.After-union Inv-loop μ-loop → tie.After-place Inv-loop μ-loop
-asked c = c .before .before .before .before .before .before
+asked c = c .before .before .before .before
 
 mul-count-3 : tie.Need-mul-count-3 Inv-loop μ-loop
 mul-count-3 c = omega (arith, low (asked c .before))
 
-element-copy-out-count-2 : tie.Need-element-copy-out-count-2 Inv-loop μ-loop
-element-copy-out-count-2 c = low (asked c .before)
+shared-slice-read-count : tie.Need-shared-slice-read-count Inv-loop μ-loop
+shared-slice-read-count c =
+    let in-loop = asked (c .before) .before in
+    omega (arith, here in-loop .inside, begun in-loop .pre .1 .0 .1)
 
 count-requires-2 : tie.Need-count-requires-2 Inv-loop μ-loop
 count-requires-2 c κs = search needs
 
--- The union tells whom the place of this arc holds back without an inhibitor arc.
+-- The union tells who lacks tokens at the place of this arc.
 tells : (c : tie.After-union Inv-loop μ-loop)
     → let in-loop = asked c .before in
-    let a = in-loop .before .before .before .before .before .before .args in
+    let a = begun in-loop .args in
     (j : ℕ) → bit (c .union .result) j
-    ≡ (bit (in-loop .before .loop .lack) j || lacks (table (a .t .now)) (a .sort) (a .held .now) (a .curbs .now) (eqb (in-loop .before .loop .link - 1)) j)
+    ≡ (bit (in-loop .before .loop .lack) j || lacks-at (table (a .t .now)) (a .sort) (a .lacks .now) (eqb (in-loop .before .loop .link - 1)) j)
 tells c j =
     let in-loop = asked c .before in
-    let a = in-loop .before .before .before .before .before .before .args in
+    let a = begun in-loop .args in
     let at = in-loop .before .loop in
     let o = here in-loop in
-    let g : ℕ → Bool = lacked (a .held .now) (a .curbs .now) j in
+    let g : ℕ → Bool = lacked (a .lacks .now) j in
     c .union .ensures j
     ∙ ap (λ (b : Bool). bit (at .lack) j || b)
-    (c .before .less .ensures j ∙ ap g (asked c .place .ensures)
+    (ap g (asked c .place .ensures)
     ∙ sym (somewhere-one (table (a .t .now)) (a .sort) g (at .link - 1) (o .inside) (o .sort-is) (near in-loop)))
 
 -- The chain goes on with the arc of u before it.
 next-link : (c : tie.After-count2 Inv-loop μ-loop)
     → let in-loop = asked (c .before .before) .before in
-    let a = in-loop .before .before .before .before .before .before .args in
+    let a = begun in-loop .args in
     c .count2 .result ≡ link (in-loop .before .loop .link - 1) (arc-of (table (a .t .now)) (a .sort) (a .u))
 next-link c =
     let in-loop = asked (c .before .before) .before in
-    let start = in-loop .before .before .before .before .before .before in
+    let start = begun in-loop in
     let a = start .args in
     let tb : Table = table (a .t .now) in
     let r : ℕ = in-loop .before .loop .link - 1 in
     let o = here in-loop in
     c .count2 .ensures
-    ∙ start .pre .1 .0 .goes-on r (o .inside) (eqb-true _ _ (and-left (is tb 3 r) (eqb (tb .sort r) (a .sort)) (o .sort-is)))
+    ∙ start .pre .1 .0 .0 .goes-on r (o .inside) (eqb-true _ _ (and-left (is tb 3 r) (eqb (tb .sort r) (a .sort)) (o .sort-is)))
     ∙ ap₂ (λ (sort u : ℕ). link r (arc-of tb sort u)) (eqb-true _ _ (and-right (is tb 3 r) (eqb (tb .sort r) (a .sort)) (o .sort-is))) (o .two-is)
 
 loop-less : tie.Need-loop-less Inv-loop μ-loop
 loop-less c =
     let in-loop = asked (c .before .before) .before in
-    let a = in-loop .before .before .before .before .before .before .args in
+    let a = begun in-loop .args in
     omega
     (arith, next-link c, link-le (in-loop .before .loop .link - 1) (arc-of (table (a .t .now)) (a .sort) (a .u)), here in-loop .succ)
 
@@ -230,7 +229,7 @@ loop-again : tie.Need-loop-again Inv-loop μ-loop
 loop-again c =
     let placing = asked (c .before .before) in
     let in-loop = placing .before in
-    let a = in-loop .before .before .before .before .before .before .args in
+    let a = begun in-loop .args in
     let at = in-loop .before .loop in
     let tb : Table = table (a .t .now) in
     let r : ℕ = at .link - 1 in
@@ -240,17 +239,17 @@ loop-again c =
     let splits : (k : ℕ) → k < tb .records → arc tb (a .sort) k ≡ true → todo k ≡ (rest k || eqb r k) =
     λ k h is. rw (next-link c) (chain-goes-on tb (a .sort) (a .u) r (o .own) (at .link) (o .succ) k h is) in (
       at-link tb (a .sort) (a .u) r (c .count2 .result) (omega (arith, o .inside)) (next-link c),
-      rw (c .before .before .before .before .before .before .add-arc .ensures)
+      rw (c .before .before .before .before .add-arc .ensures)
           (turned tb (a .sort) (goal tb (a .sort) (a .u) (a .moved .now)) todo (at .moved) (at .inv .1) rest r (o .inside) (o .sort-is) (near in-loop) splits
           (rw (next-link c) (chain-passed tb (a .sort) (a .u) r (o .own)))),
       λ j.
-          gathers tb (a .sort) (lacked (a .held .now) (a .curbs .now) j) todo rest (eqb r) splits (bit (at .lack) j) (tells (c .before .before) j) (at .inv .2 j),
+          gathers tb (a .sort) (lacked (a .lacks .now) j) todo rest (eqb r) splits (bit (at .lack) j) (tells (c .before .before) j) (at .inv .2 j),
     )
 
 returns : tie.Need-returns Inv-loop μ-loop
 unfolding total
 returns c =
-    let a = c .before .before .before .before .before .before .args in
+    let a = started (c .before .before .before .before) .args in
     let at = c .before .loop in
     let tb : Table = table (a .t .now) in
     let todo : ℕ → Bool = pending tb (a .u) (at .link) in
@@ -259,7 +258,7 @@ returns c =
         size = at .inv .1 .size;
         adds = done tb (a .sort) (goal tb (a .sort) (a .u) (a .moved .now)) todo (at .moved) (at .inv .1) none;
       },
-      λ j. all-gathered tb (a .sort) (lacked (a .held .now) (a .curbs .now) j) todo none (bit (at .lack) j) (at .inv .2 j),
+      λ j. all-gathered tb (a .sort) (lacked (a .lacks .now) j) todo none (bit (at .lack) j) (at .inv .2 j),
     )
 
 pub follow-spec : {M : Type 1} → statement M
@@ -278,14 +277,11 @@ follow-spec =
     sub-r
     place-requires
     add-arc-requires
-    mul-less
-    element-copy-out-less
-    mul-less-2
-    element-copy-out-less-2
-    less-requires
+    mul-union
+    element-copy-out-union
     union-requires
     mul-count-3
-    element-copy-out-count-2
+    shared-slice-read-count
     count-requires-2
     loop-less
     loop-again

@@ -69,7 +69,7 @@ module _ (takers rows : List ℕ) (p : ℕ) (g : Part takers rows p) where
       }
 
 abbrev Inv-loop : tie.InvT-loop
-Inv-loop takers rows₀ n p₀ rows p = (p ≤ n) × Blank-from 128 n takers × Part takers rows p
+Inv-loop takers rows₀ n p₀ rows p = (p ≤ n) × Blank-from 128 n takers × (n ≤ length takers) × Part takers rows p
 
 abbrev μ-loop : tie.MeasureT-loop
 μ-loop takers rows₀ n p₀ rows p = n - p
@@ -77,10 +77,11 @@ abbrev μ-loop : tie.MeasureT-loop
 loop-holds : tie.Need-loop-holds Inv-loop μ-loop
 unfolding some
 loop-holds c =
-    let empty = c .pre .1 in (
+    let pre = c .before .pre in (
       omega arith,
-      c .pre .0,
-      rw empty
+      pre .0 .0,
+      pre .0 .1,
+      rw (pre .1)
           (record {
             size = length-replicate {A = ℕ} 64 0;
             sound = λ i j h e. not-both e (ap (λ (x : ℕ). bit x j) (getD-replicate 64 i 0 0 h) ∙ bit-zero j);
@@ -91,14 +92,14 @@ loop-holds c =
 mul-set : tie.Need-mul-set Inv-loop μ-loop
 mul-set c = search needs
 
-element-copy-out-set : tie.Need-element-copy-out-set Inv-loop μ-loop
-element-copy-out-set c = search needs
+shared-slice-read-set : tie.Need-shared-slice-read-set Inv-loop μ-loop
+shared-slice-read-set c = search needs
 
 rest-requires : tie.Need-rest-requires Inv-loop μ-loop
 rest-requires c κs = search needs
 
 give-requires : tie.Need-give-requires Inv-loop μ-loop
-give-requires c κs = c .before .before .before .before .before .loop .inv .2 .size
+give-requires c κs = c .before .before .before .before .before .loop .inv .3 .size
 
 add-p : tie.Need-add-p Inv-loop μ-loop
 add-p c = search needs
@@ -109,21 +110,21 @@ loop-less c = search needs
 loop-again : tie.Need-loop-again Inv-loop μ-loop
 loop-again c =
     let at = c .before .before .before .before .loop in
-    let takers : List ℕ = c .before .before .before .before .before .args .takers .now in
-    ⊎-elim (λ w. rw (w .3) (omega arith, at .inv .1, shares takers (at .rows) (at .p) (at .inv .2) _ (w .2 .ensures)))
-    (λ w. rw (w .1) (omega arith, at .inv .1, passes-over takers (at .rows) (at .p) (at .inv .2) (one-alone _ _ (w .0 .left) (c .before .rest .ensures))))
+    let takers : List ℕ = c .before .before .before .before .before .before .args .takers .now in
+    ⊎-elim (λ w. rw (w .3) (omega arith, at .inv .1, at .inv .2, shares takers (at .rows) (at .p) (at .inv .3) _ (w .2 .ensures)))
+    (λ w. rw (w .1) (omega arith, at .inv .1, at .inv .2, passes-over takers (at .rows) (at .p) (at .inv .3) (one-alone _ _ (w .0 .left) (c .before .rest .ensures))))
     (c .if1 .came)
 
 returns : tie.Need-returns Inv-loop μ-loop
 returns c =
     let at = c .before .loop in
-    let takers : List ℕ = c .before .before .args .takers .now in
+    let takers : List ℕ = c .before .before .before .args .takers .now in
     let all : (i j : ℕ) → i < 64 → some (at .p) (both-in takers i j) ≡ some 128 (both-in takers i j) =
     λ i j h. some-short (at .p) 128 (both-in takers i j) (omega (arith, at .inv .1 .most)) (λ p l m. rw (at .inv .1 .none p i (omega arith) m h)) in
     record {
-      size = at .inv .2 .size;
-      sound = λ i j h e. sym (all i j h) ∙ at .inv .2 .sound i j h e;
-      whole = λ i j h l n e. at .inv .2 .whole i j h l n (all i j h ∙ e);
+      size = at .inv .3 .size;
+      sound = λ i j h e. sym (all i j h) ∙ at .inv .3 .sound i j h e;
+      whole = λ i j h l n e. at .inv .3 .whole i j h l n (all i j h ∙ e);
     }
 
 pub conflicts-spec : {M : Type 1} → statement M
@@ -134,7 +135,7 @@ conflicts-spec =
     μ-loop
     loop-holds
     mul-set
-    element-copy-out-set
+    shared-slice-read-set
     rest-requires
     give-requires
     add-p

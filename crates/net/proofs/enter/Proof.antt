@@ -29,16 +29,16 @@ single-requires c κs = search needs
 mul-line : tie.Need-mul-line
 mul-line c = search needs
 
-element-copy-out-line : tie.Need-element-copy-out-line
-element-copy-out-line c = search needs
+slice-read-line : tie.Need-slice-read-line
+slice-read-line c = search needs
 
 meet-requires : tie.Need-meet-requires
 meet-requires c κs = search needs
 
 -- What meeting says of the bit.
-bit-there : (c : tie.After-meet) → let start = c .before .before .before in
+bit-there : (c : tie.After-meet) → let start = c .before .before .before .before in
     c .meet .result ≡ bit (getD (start .args .rows .now) (start .args .q) 0) (start .args .y)
-bit-there c = c .meet .ensures ∙ met _ (c .before .before .single .result) _ (c .before .before .before .pre .1) (c .before .before .single .ensures)
+bit-there c = c .meet .ensures ∙ met _ (c .before .before .single .result) _ (c .before .before .before .before .pre .1) (c .before .before .single .ensures)
 
 returns : tie.Need-returns
 returns c = (sym (c .if1 .taken) ∙ bit-there (c .before), (λ e. refl, λ e. not-both refl e))
@@ -49,8 +49,11 @@ union-requires c κs = search needs
 mul-rows : tie.Need-mul-rows
 mul-rows c = search needs
 
-element-write-rows : tie.Need-element-write-rows
-element-write-rows c = search needs
+slice-write-rows : tie.Need-slice-write-rows
+slice-write-rows c = search needs
+
+same-length : tie.Need-same-length
+same-length c = search needs
 
 returns-2 : tie.Need-returns-2
 returns-2 c =
@@ -68,10 +71,11 @@ enter-spec =
     (tie.spec
     single-requires
     mul-line
-    element-copy-out-line
+    slice-read-line
     meet-requires
     returns
     union-requires
     mul-rows
-    element-write-rows
+    slice-write-rows
+    same-length
     returns-2)

@@ -1,13 +1,16 @@
 -- `inhibits` answers its question: the walk along j's inhibitor arcs sees them all, and at the first that a basic or a test arc to i opposes it returns.
-use mathlib.Core.Bool.{true}
-use mathlib.Core.Path.{_≡_, sym, _∙_}
+use mathlib.Core.Bool.{true, _&&_}
+use mathlib.Core.Path.{_≡_, sym, ap₂, _∙_}
 use Prim.Native.Nat.{ℕ, _+_, _-_, _≤_, _<_}
 use native.Mathlib.Omega.{arith}
+use lib.ListN.{length}
 use borrow.Author.Needs.{needs}
+use Rattle.meaning.specs.Below.{some}
 use Rattle.meaning.specs.Table.{Table, table}
 use Rattle.meaning.proofs.Bool.{and-true, or-true-left, or-true-right}
 use Rattle.meaning.proofs.Below.{some-intro}
 use Rattle.net.specs.Chains.{link, arc-of}
+use Rattle.net.specs.Opposed.{alike}
 use Rattle.net.proofs.Links.{link-le}
 use Rattle.net.proofs.Walks.{Walk, walk-begins, walk-at, walk-goes-on, walk-ends, own-chain}
 use Rattle.net.proofs.Stopping.{head, hung, against, stopping, inhibited-same}
@@ -34,7 +37,7 @@ count-requires c κs = search needs
 
 loop-holds : tie.Need-loop-holds Inv-loop μ-loop
 loop-holds c =
-    let start = c .before .before .before in
+    let start = c .before .before .before .before in
     walk-begins _ _ _ _ (c .count .ensures ∙ head _ _ _ (start .pre .0) 2 (start .args .j) _ (omega arith) (start .pre .1 .1) (omega arith))
 
 sub-r : tie.Need-sub-r Inv-loop μ-loop
@@ -51,22 +54,31 @@ element-copy-out-opposed c = search needs
 
 opposed-requires : tie.Need-opposed-requires Inv-loop μ-loop
 opposed-requires c κs =
-    let start = c .before .before .before .before .before .before .before in
+    let start = c .before .before .before .before .before .before .before .before in
     (hung _ _ _ (start .pre .0) 0 (start .args .i) _ (omega arith) (start .pre .1 .0) (omega arith), start .pre .1 .2)
+
+-- What the function began with.
+abbrev begun : tie.After-opposed Inv-loop μ-loop → tie.Start Inv-loop μ-loop
+begun c = c .before .before .before .before .before .before .before .before .before
 
 -- The arc at which the walk stands, and what the first question asks of it.
 here : (c : tie.After-opposed Inv-loop μ-loop)
-    → let start = c .before .before .before .before .before .before .before .before in
+    → let start = begun c in
     let tb = table (start .args .t .now) in
     let r = c .before .before .before .before .loop .link - 1 in
     (r < tb .records) × (arc-of tb 2 (start .args .j) r ≡ true) × (c .opposed .result ≡ against tb (start .args .i) 0 r)
 here c =
-    let start = c .before .before .before .before .before .before .before .before in
+    let start = begun c in
+    let tb : Table = table (start .args .t .now) in
     let at = c .before .before .before .before .loop in
     let reads = c .before .before .read .ensures in
     let stands = walk-at _ _ _ (at .link) (at .inv) (at .link - 1) (omega arith) in
-    let begins = head _ _ _ (start .pre .0) 0 (start .args .i) (start .args .i) (omega arith) (start .pre .1 .0) (omega arith) in
-    (stands .0, stands .1, c .opposed .ensures .holds 0 (start .args .i) begins ∙ rw (reads .one, reads .four))
+    let begins = head _ _ _ (start .pre .0) 0 (start .args .i) (start .args .i) (omega arith) (start .pre .1 .0) (omega arith) in (
+      stands .0,
+      stands .1,
+      c .opposed .ensures .holds 0 (start .args .i) begins
+          ∙ ap₂ (λ (a b : ℕ). some (tb .records) (λ k. arc-of tb 0 (start .args .i) k && alike tb a b k)) (reads .one) (reads .four),
+    )
 
 returns : tie.Need-returns Inv-loop μ-loop
 returns c =
@@ -84,41 +96,47 @@ element-copy-out-opposed-2 c = search needs
 
 opposed-requires-2 : tie.Need-opposed-requires-2 Inv-loop μ-loop
 opposed-requires-2 c κs =
-    let start = c .before .before .before .before .before .before .before .before .before .before in
+    let start = begun (c .before .before) in
     (hung _ _ _ (start .pre .0) 1 (start .args .i) _ (omega arith) (start .pre .1 .0) (omega arith), start .pre .1 .2)
 
 -- What the second question asks of it.
 there : (c : tie.After-opposed2 Inv-loop μ-loop)
-    → let start = c .before .before .before .before .before .before .before .before .before .before .before in
+    → let start = begun (c .before .before .before) in
     c .opposed2 .result ≡ against (table (start .args .t .now)) (start .args .i) 1 (c .before .before .before .before .before .before .before .loop .link - 1)
 there c =
-    let start = c .before .before .before .before .before .before .before .before .before .before .before in
+    let start = begun (c .before .before .before) in
+    let tb : Table = table (start .args .t .now) in
     let reads = c .before .before .before .before .before .read .ensures in
     let begins = head _ _ _ (start .pre .0) 1 (start .args .i) (64 + start .args .i) (omega arith) (start .pre .1 .0) (omega arith) in
-    c .opposed2 .ensures .holds 1 (start .args .i) begins ∙ rw (reads .one, reads .four)
+    c .opposed2 .ensures .holds 1 (start .args .i) begins
+    ∙ ap₂ (λ (a b : ℕ). some (tb .records) (λ k. arc-of tb 1 (start .args .i) k && alike tb a b k)) (reads .one) (reads .four)
 
 returns-2 : tie.Need-returns-2 Inv-loop μ-loop
 returns-2 c =
     let h = here (c .before .before .before .before) in
-    let a = c .before .before .before .before .before .before .before .before .before .before .before .before .args in
+    let a = begun (c .before .before .before .before) .args in
     sym (some-intro _ _ _ (h .0) (and-true (h .1) (or-true-right (against (table (a .t .now)) (a .i) 0 (c .before .before .before .before .before .before .before .before .loop .link - 1)) (sym (there (c .before)) ∙ c .if2 .taken)))) ∙ inhibited-same _ _ _
 
-mul-count-2 : tie.Need-mul-count-2 Inv-loop μ-loop
-mul-count-2 c = omega (arith, here (c .before .before .before .before) .0, c .before .before .before .before .before .before .before .before .before .before .before .before .pre .1 .2)
+-- It has its link.
+inside : (c : tie.After-opposed Inv-loop μ-loop) → c .before .before .before .before .loop .link - 1 < length (begun c .args .next .now)
+inside c = omega (arith, here c .0, begun c .pre .1 .2)
 
-element-copy-out-count-2 : tie.Need-element-copy-out-count-2 Inv-loop μ-loop
-element-copy-out-count-2 c = omega (arith, here (c .before .before .before .before) .0, c .before .before .before .before .before .before .before .before .before .before .before .before .pre .1 .2)
+mul-count-2 : tie.Need-mul-count-2 Inv-loop μ-loop
+mul-count-2 c = omega (arith, inside (c .before .before .before .before), begun (c .before .before .before .before) .good .1 .1 .0 .1)
+
+shared-slice-read-count : tie.Need-shared-slice-read-count Inv-loop μ-loop
+shared-slice-read-count c = inside (c .before .before .before .before .before)
 
 count-requires-2 : tie.Need-count-requires-2 Inv-loop μ-loop
 count-requires-2 c κs = search needs
 
 -- The next link is to the arc before.
 next-link : (c : tie.After-count2 Inv-loop μ-loop)
-    → let start = c .before .before .before .before .before .before .before .before .before .before .before .before .before .before in
+    → let start = begun (c .before .before .before .before .before .before) in
     let r = c .before .before .before .before .before .before .before .before .before .before .loop .link - 1 in
     (c .count2 .result ≡ link r (arc-of (table (start .args .t .now)) 2 (start .args .j))) × (c .count2 .result ≤ r)
 next-link c =
-    let start = c .before .before .before .before .before .before .before .before .before .before .before .before .before .before in
+    let start = begun (c .before .before .before .before .before .before) in
     let tb : Table = table (start .args .t .now) in
     let r : ℕ = c .before .before .before .before .before .before .before .before .before .before .loop .link - 1 in
     let h = here (c .before .before .before .before .before .before) in
@@ -161,7 +179,7 @@ inhibits-spec =
     opposed-requires-2
     returns-2
     mul-count-2
-    element-copy-out-count-2
+    shared-slice-read-count
     count-requires-2
     loop-less
     loop-again

@@ -1,8 +1,10 @@
 -- `opposed` answers its question: whatever chain begins with the link, the walk along it sees all its arcs, and at the first that opposes it returns.
-use mathlib.Core.Bool.{true}
-use mathlib.Core.Path.{_≡_, sym, _∙_}
+use mathlib.Core.Bool.{true, _&&_}
+use mathlib.Core.Path.{_≡_, sym, ap₂, _∙_}
 use Prim.Native.Nat.{ℕ, _-_, _<_}
 use native.Mathlib.Omega.{arith}
+use lib.Dec.{eqb}
+use lib.ListN.{length}
 use borrow.Author.Needs.{needs}
 use Rattle.meaning.specs.Table.{Table, table}
 use Rattle.meaning.proofs.Bool.{and-true}
@@ -41,18 +43,26 @@ read-requires c κs = search needs
 opposes-requires : tie.Need-opposes-requires Inv-loop μ-loop
 opposes-requires c κs = search needs
 
+-- What the function began with.
+abbrev begun : tie.After-opposes Inv-loop μ-loop → tie.Start Inv-loop μ-loop
+begun c = c .before .before .before .before .before .before .before
+
 -- The arc at which the walk along such a chain stands, and what is asked of it.
 here : (c : tie.After-opposes Inv-loop μ-loop)
-    → let start = c .before .before .before .before .before .before in
+    → let start = begun c in
     let tb = table (start .args .t .now) in
     let r = c .before .before .before .loop .link - 1 in
     (sort u : ℕ) → start .args .first ≡ link (tb .records) (arc-of tb sort u)
     → (r < tb .records) × (arc-of tb sort u r ≡ true) × (c .opposes .result ≡ alike tb (start .args .y .one) (start .args .y .four) r)
 here c sort u e =
     let at = c .before .before .before .loop in
+    let y : Rec = begun c .args .y in
     let reads = c .before .read .ensures in
-    let stands = walk-at _ _ _ (at .link) (at .inv sort u e) (at .link - 1) (omega arith) in
-    (stands .0, stands .1, c .opposes .ensures ∙ rw (reads .one, reads .four))
+    let stands = walk-at _ _ _ (at .link) (at .inv sort u e) (at .link - 1) (omega arith) in (
+      stands .0,
+      stands .1,
+      c .opposes .ensures ∙ ap₂ (λ (a b : ℕ). eqb a (y .one) && eqb b (y .four)) (reads .one) (reads .four),
+    )
 
 returns : tie.Need-returns Inv-loop μ-loop
 returns c =
@@ -64,28 +74,28 @@ returns c =
     }
 
 -- Of some chain the link is the beginning, so the arc is one of the records.
-inside : (c : tie.After-opposes Inv-loop μ-loop) → c .before .before .before .loop .link - 1 < 1024
+inside : (c : tie.After-opposes Inv-loop μ-loop) → c .before .before .before .loop .link - 1 < length (begun c .args .next .now)
 inside c =
-    let pre = c .before .before .before .before .before .before .pre in
+    let pre = begun c .pre in
     omega (arith, here c (pre .0 .sort) (pre .0 .to) (pre .0 .begins) .0, pre .1)
 
 mul-count : tie.Need-mul-count Inv-loop μ-loop
-mul-count c = omega (arith, inside (c .before))
+mul-count c = omega (arith, inside (c .before), begun (c .before) .good .1 .0 .1)
 
-element-copy-out-count : tie.Need-element-copy-out-count Inv-loop μ-loop
-element-copy-out-count c = omega (arith, inside (c .before))
+shared-slice-read-count : tie.Need-shared-slice-read-count Inv-loop μ-loop
+shared-slice-read-count c = inside (c .before .before)
 
 count-requires-2 : tie.Need-count-requires-2 Inv-loop μ-loop
 count-requires-2 c κs = search needs
 
 -- The next link is to the arc before, in every such chain.
 next-link : (c : tie.After-count2 Inv-loop μ-loop)
-    → let start = c .before .before .before .before .before .before .before .before .before in
+    → let start = begun (c .before .before .before) in
     let tb = table (start .args .t .now) in
     let r = c .before .before .before .before .before .before .loop .link - 1 in
     (sort u : ℕ) → start .args .first ≡ link (tb .records) (arc-of tb sort u) → c .count2 .result ≡ link r (arc-of tb sort u)
 next-link c sort u e =
-    let start = c .before .before .before .before .before .before .before .before .before in
+    let start = begun (c .before .before .before) in
     let tb : Table = table (start .args .t .now) in
     let r : ℕ = c .before .before .before .before .before .before .loop .link - 1 in
     let h = here (c .before .before .before) sort u e in
@@ -93,7 +103,7 @@ next-link c sort u e =
 
 loop-less : tie.Need-loop-less Inv-loop μ-loop
 loop-less c =
-    let start = c .before .before .before .before .before .before .before .before .before in
+    let start = begun (c .before .before .before) in
     let tb : Table = table (start .args .t .now) in
     let r : ℕ = c .before .before .before .before .before .before .loop .link - 1 in
     let chain = start .pre .0 in
@@ -124,7 +134,7 @@ opposed-spec =
     opposes-requires
     returns
     mul-count
-    element-copy-out-count
+    shared-slice-read-count
     count-requires-2
     loop-less
     loop-again

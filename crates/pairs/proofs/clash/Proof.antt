@@ -10,7 +10,7 @@ narrow-requires c κs = search needs
 
 least-requires : tie.Need-least-requires
 least-requires c κs =
-    let start = c .before .before .before .before .before in
+    let start = c .before .before .before .before .before .before .before .before in
     (left-blank (c .before .before .narrow .ensures .0) (start .pre .0 .1), start .pre .1)
 
 returns : tie.Need-returns

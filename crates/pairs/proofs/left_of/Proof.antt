@@ -9,9 +9,13 @@ use borrow.Author.Needs.{needs}
 use Rattle.meaning.specs.Bytes.{bit}
 use Rattle.sets.proofs.Bits.{bit-zero}
 use Rattle.sets.proofs.Members.{lowest-in, falls, kept}
-use Rattle.pairs.specs.Settled.{crossed-at}
+use Rattle.pairs.specs.Settled.{crossed-by, crossed-at}
 use Rattle.pairs.proofs.left_of.Statement.{statement}
 use Rattle.pairs.proofs.left_of.Tie as tie
+
+-- Rows that are the same are against each other the same.
+crossed-same : {a b c d a′ b′ c′ d′ : ℕ} → a ≡ a′ → b ≡ b′ → c ≡ c′ → d ≡ d′ → crossed-by a b c d ≡ crossed-by a′ b′ c′ d′
+crossed-same e f g h = rw (e, f, g, h)
 
 abbrev Inv-loop : tie.InvT-loop
 Inv-loop row index truths i looks wants left₀ kept₀ left kept =
@@ -21,20 +25,17 @@ Inv-loop row index truths i looks wants left₀ kept₀ left kept =
 abbrev μ-loop : tie.MeasureT-loop
 μ-loop row index truths i looks wants left₀ kept₀ left kept = left
 
-add-looks : tie.Need-add-looks Inv-loop μ-loop
-add-looks c = search needs
+mul-line : tie.Need-mul-line Inv-loop μ-loop
+mul-line c = search needs
 
-mul-looks : tie.Need-mul-looks Inv-loop μ-loop
-mul-looks c = search needs
+add-line : tie.Need-add-line Inv-loop μ-loop
+add-line c = search needs
 
-element-copy-out-looks : tie.Need-element-copy-out-looks Inv-loop μ-loop
-element-copy-out-looks c = search needs
+line-requires : tie.Need-line-requires Inv-loop μ-loop
+line-requires c κs = search needs
 
-mul-wants : tie.Need-mul-wants Inv-loop μ-loop
-mul-wants c = search needs
-
-element-copy-out-wants : tie.Need-element-copy-out-wants Inv-loop μ-loop
-element-copy-out-wants c = search needs
+line-requires-2 : tie.Need-line-requires-2 Inv-loop μ-loop
+line-requires-2 c κs = search needs
 
 loop-holds : tie.Need-loop-holds Inv-loop μ-loop
 loop-holds c = (omega arith, λ j h. rw (bit-zero j))
@@ -47,20 +48,17 @@ member : (c : tie.After-lowest Inv-loop μ-loop) → (c .lowest .result < 64) ×
 member c =
     lowest-in (c .before .before .loop .left) (c .lowest .result) (c .before .before .loop .inv .0) (c .before .loop-test .taken) (c .lowest .ensures)
 
-add-crossed : tie.Need-add-crossed Inv-loop μ-loop
-add-crossed c = omega (arith, member c .0)
+mul-line-2 : tie.Need-mul-line-2 Inv-loop μ-loop
+mul-line-2 c = omega (arith, member c .0)
 
-mul-crossed : tie.Need-mul-crossed Inv-loop μ-loop
-mul-crossed c = omega (arith, member c .0)
+add-line-2 : tie.Need-add-line-2 Inv-loop μ-loop
+add-line-2 c = omega (arith, member c .0)
 
-element-copy-out-crossed : tie.Need-element-copy-out-crossed Inv-loop μ-loop
-element-copy-out-crossed c = omega (arith, member c .0)
+line-requires-3 : tie.Need-line-requires-3 Inv-loop μ-loop
+line-requires-3 c κs = search needs
 
-mul-crossed-2 : tie.Need-mul-crossed-2 Inv-loop μ-loop
-mul-crossed-2 c = omega (arith, member (c .before) .0)
-
-element-copy-out-crossed-2 : tie.Need-element-copy-out-crossed-2 Inv-loop μ-loop
-element-copy-out-crossed-2 c = omega (arith, member (c .before) .0)
+line-requires-4 : tie.Need-line-requires-4 Inv-loop μ-loop
+line-requires-4 c κs = search needs
 
 crossed-requires : tie.Need-crossed-requires Inv-loop μ-loop
 crossed-requires c κs = search needs
@@ -82,7 +80,8 @@ loop-again c =
     let asked = c .before .before in
     let low = asked .before .before .before in
     let at = low .before .before .loop in
-    let a = low .before .before .before .before .before .args in
+    let wants = low .before .before .before in
+    let a = wants .before .before .before .before .args in
     let k = member low in
     let j : ℕ = low .lowest .result in
     let less = rw (← low .lowest .ensures) at (c .rest .ensures) in
@@ -90,7 +89,10 @@ loop-again c =
     let one : (b : Bool) → b ≡ f j → ((m : ℕ) → bit (c .before .if1 .kept) m ≡ (bit (at .kept) m || (b && (eqb j m && ltb j 64))))
     → (m : ℕ) → (bit (c .before .if1 .kept) m || (bit (c .rest .result) m && f m)) ≡ (bit (at .kept) m || (bit (at .left) m && f m)) =
     λ b e gains. kept (at .left) j (c .rest .result) less f (at .kept) (c .before .if1 .kept) b (k .0) (k .1) e gains in
-    let whole = ap not (asked .crossed .ensures) in (
+    let whole =
+    ap not
+    (asked .crossed .ensures
+    ∙ crossed-same (wants .before .line .ensures) (wants .line2 .ensures) (asked .before .before .line3 .ensures) (asked .before .line4 .ensures)) in (
       omega arith,
       elim (c .before .if1 .came) [
         | inl w ↦ λ m h. one true (sym (w .0 .taken) ∙ whole) (λ q. rw (w .2) (w .1 .ensures q)) m ∙ at .inv .1 m h
@@ -111,18 +113,16 @@ left-of-spec =
     (tie.spec
     Inv-loop
     μ-loop
-    add-looks
-    mul-looks
-    element-copy-out-looks
-    mul-wants
-    element-copy-out-wants
+    mul-line
+    add-line
+    line-requires
+    line-requires-2
     loop-holds
     lowest-requires
-    add-crossed
-    mul-crossed
-    element-copy-out-crossed
-    mul-crossed-2
-    element-copy-out-crossed-2
+    mul-line-2
+    add-line-2
+    line-requires-3
+    line-requires-4
     crossed-requires
     with-requires
     rest-requires

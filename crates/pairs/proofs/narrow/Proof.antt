@@ -117,7 +117,7 @@ abbrev μ-loop : tie.MeasureT-loop
 μ-loop rows₀ below above index truths n any₀ passed₀ i₀ rows any passed i = n - i
 
 loop-holds : tie.Need-loop-holds Inv-loop μ-loop
-loop-holds c = (omega arith, begins _ _ _ _ _ (c .pre .0), no-number (λ _. true))
+loop-holds c = (omega arith, begins _ _ _ _ _ (c .before .before .pre .0), no-number (λ _. true))
 
 with-requires : tie.Need-with-requires Inv-loop μ-loop
 with-requires c κs = search needs
@@ -172,7 +172,7 @@ loop-again c =
     let joined = c .before .before .before .before .before in
     let with = joined .before .before .before in
     let at = with .before .before .loop in
-    let start = with .before .before .before in
+    let start = with .before .before .before .before .before in
     let a = start .args in
     let i : ℕ = at .i in
     let low : i < 64 = omega (arith, start .pre .1 .most) in
@@ -185,7 +185,7 @@ loop-again c =
 returns : tie.Need-returns Inv-loop μ-loop
 returns c =
     let at = c .before .loop in
-    let start = c .before .before in
+    let start = c .before .before .before .before in
     let end : at .i ≡ start .args .n = omega (arith, at .inv .0) in (
       narrowed _ _ _ _ _ (at .rows) (at .i) (at .any) (at .inv .1) _ (start .pre .1) end,
       answers _ _ _ _ _ (at .rows) (at .i) (at .any) (at .inv .1) _ (start .pre .1) end,

@@ -2,7 +2,7 @@
 -- nobody stands above k or below it, and from n on where the rows are empty, the rows are the round over k already.
 use mathlib.Core.Logic.{⊎-elim}
 use mathlib.Core.Path.{_≡_, sym, _∙_}
-use Prim.Native.Nat.{ℕ, _+_, _≤_, _<_, _-_}
+use Prim.Native.Nat.{ℕ, _+_, _*_, _≤_, _<_, _-_}
 use native.Mathlib.Nat.{not-suc-le-zero}
 use native.Mathlib.Omega.{arith}
 use lib.ListN.{getD, length, length-set, length-replicate, getD-replicate}
@@ -18,7 +18,7 @@ use Rattle.priority.proofs.close.Tie as tie
 
 abbrev Inv-loop : tie.InvT-loop
 Inv-loop index below₀ above₀ n i₀ below above i =
-    (i ≤ n) × Pairs-below n index × (length below ≡ 64) × ((u : ℕ) → u < i → getD below u 0 ≡ getD index (512 + u) 0)
+    (i ≤ n) × Pairs-below n index × (8 * n ≤ length index) × (length below ≡ 64) × ((u : ℕ) → u < i → getD below u 0 ≡ getD index (8 * u + 5) 0)
     × ((u : ℕ) → i ≤ u → u < 64 → getD below u 0 ≡ 0) × Turned below above
 
 abbrev μ-loop : tie.MeasureT-loop
@@ -32,23 +32,28 @@ abbrev μ-loop2 : tie.MeasureT-loop2
 
 loop-holds : tie.Need-loop-holds Inv-loop μ-loop Inv-loop2 μ-loop2
 loop-holds c =
-    let empty = c .pre .1 in (
+    let pre = c .before .pre in
+    let empty = pre .1 in (
       omega arith,
-      c .pre .0,
+      pre .0 .0,
+      pre .0 .1,
       rw (empty .0) (length-replicate {A = ℕ} 64 0),
       λ u h. absurd (not-suc-le-zero h),
       λ u h l. rw (empty .0) (getD-replicate {A = ℕ} 64 u 0 0 l),
       rw (empty .0, empty .1) no-row,
     )
 
-add-row : tie.Need-add-row Inv-loop μ-loop Inv-loop2 μ-loop2
-add-row c = search needs
-
 mul-row : tie.Need-mul-row Inv-loop μ-loop Inv-loop2 μ-loop2
 mul-row c = search needs
 
-element-copy-out-row : tie.Need-element-copy-out-row Inv-loop μ-loop Inv-loop2 μ-loop2
-element-copy-out-row c = search needs
+add-row : tie.Need-add-row Inv-loop μ-loop Inv-loop2 μ-loop2
+add-row c = search needs
+
+mul-row-2 : tie.Need-mul-row-2 Inv-loop μ-loop Inv-loop2 μ-loop2
+mul-row-2 c = search needs
+
+shared-slice-read-row : tie.Need-shared-slice-read-row Inv-loop μ-loop Inv-loop2 μ-loop2
+shared-slice-read-row c = search needs
 
 mul-below : tie.Need-mul-below Inv-loop μ-loop Inv-loop2 μ-loop2
 mul-below c = search needs
@@ -71,31 +76,32 @@ loop-less c = search needs
 loop-again : tie.Need-loop-again Inv-loop μ-loop Inv-loop2 μ-loop2
 loop-again c =
     let at = c .before .before .before .loop in
-    let index = c .before .before .before .before .args .index .now in
-    let row : ℕ = getD index (512 + at .i) 0 in
+    let index = c .before .before .before .before .before .args .index .now in
+    let row : ℕ = getD index (8 * at .i + 5) 0 in
     let low : at .i < 64 = omega (arith, at .inv .1 .most) in
-    let empty : getD (at .below) (at .i) 0 ≡ 0 = at .inv .4 (at .i) (omega arith) low in
+    let empty : getD (at .below) (at .i) 0 ≡ 0 = at .inv .5 (at .i) (omega arith) low in
     ⊎-elim
     (λ w.
     rw (w .4, w .5) (
       omega arith,
       at .inv .1,
+      at .inv .2,
       simp length-set (omega arith),
-      below-more _ _ (λ u h. getD-set-other (at .below) (at .i) u row 0 (λ e. omega arith) ∙ at .inv .3 u h)
+      below-more _ _ (λ u h. getD-set-other (at .below) (at .i) u row 0 (λ e. omega arith) ∙ at .inv .4 u h)
           (getD-set-same (at .below) (at .i) row 0 (omega arith)),
-      λ u h l. getD-set-other (at .below) (at .i) u row 0 (λ e. omega arith) ∙ at .inv .4 u (omega arith) l,
-      one-more (at .below) (at .above) _ (at .i) row _ (at .inv .2) low empty (at .inv .5) (w .2 .ensures) (w .3 .ensures),
+      λ u h l. getD-set-other (at .below) (at .i) u row 0 (λ e. omega arith) ∙ at .inv .5 u (omega arith) l,
+      one-more (at .below) (at .above) _ (at .i) row _ (at .inv .3) low empty (at .inv .6) (w .2 .ensures) (w .3 .ensures),
     ))
     (λ w.
     rw (w .1, w .2)
-    (omega arith, at .inv .1, at .inv .2, below-more _ _ (at .inv .3) (empty ∙ sym (w .0 .left)), λ u h l. at .inv .4 u (omega arith) l, at .inv .5))
+    (omega arith, at .inv .1, at .inv .2, at .inv .3, below-more _ _ (at .inv .4) (empty ∙ sym (w .0 .left)), λ u h l. at .inv .5 u (omega arith) l, at .inv .6))
     (c .if1 .came)
 
 loop2-holds : tie.Need-loop2-holds Inv-loop μ-loop Inv-loop2 μ-loop2
 loop2-holds c =
     let at = c .before .loop in
-    let bare : Bare _ (at .below) = record { most = at .inv .1 .most; none = λ u h l. at .inv .4 u (omega arith) l } in
-    (omega arith, bare, at .inv .2, copied (at .inv .1) bare (λ u h. at .inv .3 u (omega arith)), at .inv .5)
+    let bare : Bare _ (at .below) = record { most = at .inv .1 .most; none = λ u h l. at .inv .5 u (omega arith) l } in
+    (omega arith, bare, at .inv .3, copied (at .inv .1) bare (λ u h. at .inv .4 u (omega arith)), at .inv .6)
 
 mul-over : tie.Need-mul-over Inv-loop μ-loop Inv-loop2 μ-loop2
 mul-over c = search needs
@@ -124,7 +130,7 @@ loop2-less c = search needs
 loop2-again : tie.Need-loop2-again Inv-loop μ-loop Inv-loop2 μ-loop2
 loop2-again c =
     let at = c .before .before .before .before .loop2 in
-    let index = c .before .before .before .before .before .before .before .args .index .now in
+    let index = c .before .before .before .before .before .before .before .before .args .index .now in
     let low : at .k < 64 = omega (arith, at .inv .1 .most) in
     let turned = at .inv .4 in
     ⊎-elim
@@ -147,7 +153,7 @@ loop2-again c =
 returns : tie.Need-returns Inv-loop μ-loop Inv-loop2 μ-loop2
 returns c =
     let at = c .before .loop2 in
-    let all : at .k ≡ c .before .before .before .before .args .n = omega arith in
+    let all : at .k ≡ c .before .before .before .before .before .args .n = omega arith in
     ((closing (at .inv .2) (at .inv .1) (rw all at (at .inv .3)), at .inv .1), at .inv .4)
 
 pub close-spec : {M : Type 1} → statement M
@@ -159,9 +165,10 @@ close-spec =
     Inv-loop2
     μ-loop2
     loop-holds
-    add-row
     mul-row
-    element-copy-out-row
+    add-row
+    mul-row-2
+    shared-slice-read-row
     mul-below
     element-write-below
     single-requires

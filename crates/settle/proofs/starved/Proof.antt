@@ -1,4 +1,4 @@
--- From the first number of the level on whom the place holds back already is starved; below it the level of the rest says who is.
+-- From the first number of the level on who lacks tokens at the place already is starved; below it the level of the rest says who is.
 use mathlib.Core.Bool.{Bool, _||_}
 use mathlib.Core.Path.{sym, ap, _∙_}
 use native.Mathlib.Omega.{arith}
@@ -7,35 +7,29 @@ use borrow.Author.Needs.{needs}
 use Rattle.settle.proofs.starved.Statement.{statement}
 use Rattle.settle.proofs.starved.Tie as tie
 
-mul-curbs-here : tie.Need-mul-curbs-here
-mul-curbs-here c = search needs
-
-element-copy-out-curbs-here : tie.Need-element-copy-out-curbs-here
-element-copy-out-curbs-here c = search needs
-
 mul-if1 : tie.Need-mul-if1
 mul-if1 c = search needs
 
 element-copy-out-if1 : tie.Need-element-copy-out-if1
 element-copy-out-if1 c = search needs
 
-mul-less : tie.Need-mul-less
-mul-less c = search needs
+mul-union : tie.Need-mul-union
+mul-union c = search needs
 
-element-copy-out-less : tie.Need-element-copy-out-less
-element-copy-out-less c = search needs
-
-less-requires : tie.Need-less-requires
-less-requires c κs = search needs
+element-copy-out-union : tie.Need-element-copy-out-union
+element-copy-out-union c = search needs
 
 union-requires : tie.Need-union-requires
 union-requires c κs = search needs
 
 returns : tie.Need-returns
 returns c t l =
-    let start = c .before .before .before .before .before .before in
+    let start = c .before .before .before .before .before in
     c .union .ensures t
-    ∙ rw (c .before .less .ensures t) (ap (λ (b : Bool). bit (start .args .all) t || b) (start .pre .1 .1 (c .before .before .before .if1 .taken) t l))
+    ∙ ap (λ (b : Bool). bit (start .args .all) t || b) (start .pre .1 .1 (c .before .before .if1 .taken) t l)
+
+mul-less : tie.Need-mul-less
+mul-less c = search needs
 
 add-less : tie.Need-add-less
 add-less c = search needs
@@ -43,22 +37,28 @@ add-less c = search needs
 mul-less-2 : tie.Need-mul-less-2
 mul-less-2 c = search needs
 
-element-copy-out-less-2 : tie.Need-element-copy-out-less-2
-element-copy-out-less-2 c = search needs
+shared-slice-read-less : tie.Need-shared-slice-read-less
+shared-slice-read-less c = search needs
 
-less-requires-2 : tie.Need-less-requires-2
-less-requires-2 c κs = search needs
+mul-less-3 : tie.Need-mul-less-3
+mul-less-3 c = search needs
+
+element-copy-out-less : tie.Need-element-copy-out-less
+element-copy-out-less c = search needs
+
+less-requires : tie.Need-less-requires
+less-requires c κs = search needs
 
 mul-level-of : tie.Need-mul-level-of
 mul-level-of c = search needs
 
-index-1-level-of : tie.Need-index-1-level-of
-index-1-level-of c = search needs
+shared-slice-element-level-of : tie.Need-shared-slice-element-level-of
+shared-slice-element-level-of c = search needs
 
 level-of-requires : tie.Need-level-of-requires
 level-of-requires c κs =
-    let pre = c .before .before .before .before .before .before .pre in
-    (omega (arith, pre .0 .1), λ t l e. pre .1 .0 t l (sym (c .before .less2 .ensures t) ∙ e))
+    let pre = c .before .before .before .before .before .before .before .pre in
+    (omega (arith, pre .0 .1), λ t l e. pre .1 .0 t l (sym (c .before .less .ensures t) ∙ e))
 
 union-requires-2 : tie.Need-union-requires-2
 union-requires-2 c κs = search needs
@@ -66,27 +66,27 @@ union-requires-2 c κs = search needs
 returns-2 : tie.Need-returns-2
 returns-2 c t l =
     let x = c .before .level-of .ensures in
-    c .union2 .ensures t ∙ rw (x .short-is _ (x .inside .0) (x .inside .1) t, c .before .before .before .less2 .ensures t)
+    c .union2 .ensures t ∙ rw (x .short-is _ (x .inside .0) (x .inside .1) t, c .before .before .before .less .ensures t)
 
 pub starved-spec : {M : Type 1} → statement M
 starved-spec =
     tie.close
     (tie.spec
-    mul-curbs-here
-    element-copy-out-curbs-here
     mul-if1
     element-copy-out-if1
-    mul-less
-    element-copy-out-less
-    less-requires
+    mul-union
+    element-copy-out-union
     union-requires
     returns
+    mul-less
     add-less
     mul-less-2
-    element-copy-out-less-2
-    less-requires-2
+    shared-slice-read-less
+    mul-less-3
+    element-copy-out-less
+    less-requires
     mul-level-of
-    index-1-level-of
+    shared-slice-element-level-of
     level-of-requires
     union-requires-2
     returns-2)

@@ -1,7 +1,7 @@
 -- The rows move to the level of the new tokens; the rest is no more than those, so from the first number of that level on the rows span it too.
 use mathlib.Core.Bool.{or-false}
 use mathlib.Core.Path.{sym}
-use Prim.Native.Nat.{_+_}
+use Prim.Native.Nat.{_+_, _*_}
 use native.Mathlib.Omega.{arith}
 use lib.ListN.{getD}
 use Rattle.meaning.specs.Bytes.{bit}
@@ -19,19 +19,20 @@ element-copy-out-fell c = search needs
 
 shift-requires : tie.Need-shift-requires
 shift-requires c κs =
-    let pre = c .before .before .before .before .before .pre in
+    let pre = c .before .before .before .before .before .before .before .pre in
     ((pre .0 .0, omega (arith, pre .0 .3)), (pre .1 .0, (pre .1 .1 .0, pre .1 .1 .1)))
 
 starved-requires : tie.Need-starved-requires
 starved-requires c κs =
-    let start = c .before .before .before .before .before .before .before .before .before in
+    let start = c .before .before .before .before .before .before .before .before .before .before .before in
     let pre = start .pre in
     let place = pre .0 .0 in
-    let moved = c .before .before .before .shift .ensures in (
-      (place, pre .0 .1),
+    let moved = c .before .before .before .shift .ensures .0 in
+    let wanting = c .before .before .before .shift .ensures .1 in (
+      (place, pre .0 .1, pre .1 .0 .2, pre .1 .0 .3),
       (
-        λ t l e. pre .1 .0 .1 .least _ t place l (and-left (bit (getD (start .args .index .now) (192 + start .args .p) 0) t) _ e),
-        λ low. spans-plain (pre .1 .0 .0) (moved .spans) place _ low (omega (arith, pre .0 .2, moved .inside .1)),
+        λ t l e. pre .1 .0 .1 .least _ t place l (and-left (bit (getD (start .args .index .now) (8 * start .args .p + 2) 0) t) _ e),
+        λ low. spans-plain (pre .1 .0 .0) wanting (moved .spans) place _ low (omega (arith, pre .0 .2, moved .inside .1)),
       ),
     )
 

@@ -21,7 +21,7 @@ abbrev μ-loop : tie.MeasureT-loop
 returns : tie.Need-returns Inv-loop μ-loop
 unfolding table
 returns c =
-    let start = c .before .before in
+    let start = c .before .before .before in
     sym (first-none _ _ (records-known (start .pre .1 (c .if1 .taken)) (start .pre .0)))
 
 loop-holds : tie.Need-loop-holds Inv-loop μ-loop
@@ -35,7 +35,7 @@ unknown-requires c κs = search needs
 
 -- The test of the record that was read is that of the table's record.
 tested : (c : tie.After-unknown Inv-loop μ-loop)
-    → let a = c .before .before .before .before .before .before .args in
+    → let a = c .before .before .before .before .before .before .before .args in
     c .unknown .result ≡ names-unknown-at (table (a .t .now)) (a .rows .now) (c .before .before .before .loop .r)
 tested c = c .unknown .ensures ∙ named-at _ _ _ _ (c .before .read .ensures)
 

@@ -1,7 +1,7 @@
 -- The loop keeps that no row before i has its bit.
 use mathlib.Core.Bool.{false, not}
 use mathlib.Core.Path.{_≡_, sym, ap, _∙_}
-use Prim.Native.Nat.{ℕ, _+_, _-_, _≤_, _<_}
+use Prim.Native.Nat.{ℕ, _+_, _*_, _-_, _≤_, _<_}
 use native.Mathlib.Omega.{arith}
 use lib.ListN.{getD}
 use borrow.Author.Needs.{needs}
@@ -12,22 +12,25 @@ use Rattle.table.proofs.none_in.Statement.{statement}
 use Rattle.table.proofs.none_in.Tie as tie
 
 abbrev Inv-loop : tie.InvT-loop
-Inv-loop rows from count i₀ i = (i ≤ count) × ((k : ℕ) → k < i → bit (getD rows (from + k) 0) 0 ≡ false)
+Inv-loop rows class count i₀ i = (i ≤ count) × ((k : ℕ) → k < i → bit (getD rows (8 * k + class) 0) 0 ≡ false)
 
 abbrev μ-loop : tie.MeasureT-loop
-μ-loop rows from count i₀ i = count - i
+μ-loop rows class count i₀ i = count - i
 
 loop-holds : tie.Need-loop-holds Inv-loop μ-loop
 loop-holds c = (omega arith, none-yet _)
 
-add-has : tie.Need-add-has Inv-loop μ-loop
-add-has c = search needs
-
 mul-has : tie.Need-mul-has Inv-loop μ-loop
 mul-has c = search needs
 
-element-copy-out-has : tie.Need-element-copy-out-has Inv-loop μ-loop
-element-copy-out-has c = search needs
+add-has : tie.Need-add-has Inv-loop μ-loop
+add-has c = search needs
+
+mul-has-2 : tie.Need-mul-has-2 Inv-loop μ-loop
+mul-has-2 c = search needs
+
+shared-slice-read-has : tie.Need-shared-slice-read-has Inv-loop μ-loop
+shared-slice-read-has c = search needs
 
 has-requires : tie.Need-has-requires Inv-loop μ-loop
 has-requires c κs = search needs
@@ -56,9 +59,10 @@ none-in-spec =
     Inv-loop
     μ-loop
     loop-holds
-    add-has
     mul-has
-    element-copy-out-has
+    add-has
+    mul-has-2
+    shared-slice-read-has
     has-requires
     returns
     add-i

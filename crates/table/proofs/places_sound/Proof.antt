@@ -1,7 +1,8 @@
 -- The loop keeps that the places before p are sound, and the transitions of their arcs.
 use mathlib.Core.Path.{_≡_, refl, sym, _∙_}
-use Prim.Native.Nat.{_-_, _≤_}
+use Prim.Native.Nat.{_*_, _-_, _≤_}
 use native.Mathlib.Omega.{arith}
+use lib.ListN.{length}
 use borrow.Author.Needs.{needs}
 use borrow.Author.Tests.{not-false}
 use Rattle.meaning.proofs.Bool.{not-both}
@@ -11,13 +12,16 @@ use Rattle.table.proofs.places_sound.Statement.{statement}
 use Rattle.table.proofs.places_sound.Tie as tie
 
 abbrev Inv-loop : tie.InvT-loop
-Inv-loop rows n named₀ p₀ named p = (p ≤ n) × Reaches rows n × Places-sound rows p named
+Inv-loop rows n named₀ p₀ named p = (p ≤ n) × Reaches rows n × (8 * n ≤ length rows) × Places-sound rows p named
 
 abbrev μ-loop : tie.MeasureT-loop
 μ-loop rows n named₀ p₀ named p = n - p
 
 loop-holds : tie.Need-loop-holds Inv-loop μ-loop
-loop-holds c = (omega arith, c .pre, places-none _)
+loop-holds c = (omega arith, c .before .pre .0, c .before .pre .1, places-none _)
+
+mul-at : tie.Need-mul-at Inv-loop μ-loop
+mul-at c = search needs
 
 add-union : tie.Need-add-union Inv-loop μ-loop
 add-union c = search needs
@@ -25,8 +29,8 @@ add-union c = search needs
 mul-union : tie.Need-mul-union Inv-loop μ-loop
 mul-union c = search needs
 
-element-copy-out-union : tie.Need-element-copy-out-union Inv-loop μ-loop
-element-copy-out-union c = search needs
+shared-slice-read-union : tie.Need-shared-slice-read-union Inv-loop μ-loop
+shared-slice-read-union c = search needs
 
 add-union-2 : tie.Need-add-union-2 Inv-loop μ-loop
 add-union-2 c = search needs
@@ -34,8 +38,8 @@ add-union-2 c = search needs
 mul-union-2 : tie.Need-mul-union-2 Inv-loop μ-loop
 mul-union-2 c = search needs
 
-element-copy-out-union-2 : tie.Need-element-copy-out-union-2 Inv-loop μ-loop
-element-copy-out-union-2 c = search needs
+shared-slice-read-union-2 : tie.Need-shared-slice-read-union-2 Inv-loop μ-loop
+shared-slice-read-union-2 c = search needs
 
 union-requires : tie.Need-union-requires Inv-loop μ-loop
 union-requires c κs = search needs
@@ -43,8 +47,8 @@ union-requires c κs = search needs
 mul-place-sound : tie.Need-mul-place-sound Inv-loop μ-loop
 mul-place-sound c = search needs
 
-element-copy-out-place-sound : tie.Need-element-copy-out-place-sound Inv-loop μ-loop
-element-copy-out-place-sound c = search needs
+shared-slice-read-place-sound : tie.Need-shared-slice-read-place-sound Inv-loop μ-loop
+shared-slice-read-place-sound c = search needs
 
 add-place-sound : tie.Need-add-place-sound Inv-loop μ-loop
 add-place-sound c = search needs
@@ -52,8 +56,8 @@ add-place-sound c = search needs
 mul-place-sound-2 : tie.Need-mul-place-sound-2 Inv-loop μ-loop
 mul-place-sound-2 c = search needs
 
-element-copy-out-place-sound-2 : tie.Need-element-copy-out-place-sound-2 Inv-loop μ-loop
-element-copy-out-place-sound-2 c = search needs
+shared-slice-read-place-sound-2 : tie.Need-shared-slice-read-place-sound-2 Inv-loop μ-loop
+shared-slice-read-place-sound-2 c = search needs
 
 place-sound-requires : tie.Need-place-sound-requires Inv-loop μ-loop
 place-sound-requires c κs = search needs
@@ -77,15 +81,16 @@ loop-again c =
     let at = asked .before .before .before .before .before .before .before .loop in (
       omega arith,
       at .inv .1,
-      places-more (at .inv .2) (arcs .result) (c .union2 .result) (omega arith) (arcs .ensures)
+      at .inv .2,
+      places-more (at .inv .3) (arcs .result) (c .union2 .result) (omega arith) (arcs .ensures)
           (sym (asked .place-sound .ensures) ∙ not-false _ (c .before .if1 .left)) (c .union2 .ensures),
     )
 
 returns-2 : tie.Need-returns-2 Inv-loop μ-loop
 returns-2 c =
     let at = c .before .loop in
-    let end : at .p ≡ c .before .before .args .n = omega (arith, at .inv .0) in
-    λ e. places-all (rw end at (at .inv .2)) (at .inv .1)
+    let end : at .p ≡ c .before .before .before .args .n = omega (arith, at .inv .0) in
+    λ e. places-all (rw end at (at .inv .3)) (at .inv .1)
 
 pub places-sound-spec : {M : Type 1} → statement M
 places-sound-spec =
@@ -94,18 +99,19 @@ places-sound-spec =
     Inv-loop
     μ-loop
     loop-holds
+    mul-at
     add-union
     mul-union
-    element-copy-out-union
+    shared-slice-read-union
     add-union-2
     mul-union-2
-    element-copy-out-union-2
+    shared-slice-read-union-2
     union-requires
     mul-place-sound
-    element-copy-out-place-sound
+    shared-slice-read-place-sound
     add-place-sound
     mul-place-sound-2
-    element-copy-out-place-sound-2
+    shared-slice-read-place-sound-2
     place-sound-requires
     returns
     union-requires-2

@@ -14,12 +14,18 @@ wide-requires c κs = search needs
 wide-requires-2 : tie.Need-wide-requires-2
 wide-requires-2 c κs = search needs
 
+mul-lacks : tie.Need-mul-lacks
+mul-lacks c = search needs
+
 lacks-requires : tie.Need-lacks-requires
 lacks-requires c κs = search needs
 
 returns : tie.Need-returns
 returns c =
     arc-names _ _ (c .before .before .before .before .wide .ensures) (c .before .before .before .wide2 .ensures) true _ (sym (c .if2 .taken) ∙ c .before .lacks .ensures) refl (c .before .before .if1 .taken)
+
+mul-lacks-2 : tie.Need-mul-lacks-2
+mul-lacks-2 c = search needs
 
 add-lacks : tie.Need-add-lacks
 add-lacks c = search needs
@@ -33,6 +39,9 @@ returns-2 c =
     (c .lacks2 .ensures)
     (c .before .before .before .if1 .taken)
 
+mul-lacks-3 : tie.Need-mul-lacks-3
+mul-lacks-3 c = search needs
+
 add-lacks-2 : tie.Need-add-lacks-2
 add-lacks-2 c = search needs
 
@@ -41,6 +50,9 @@ lacks-requires-3 c κs = search needs
 
 returns-3 : tie.Need-returns-3
 returns-3 c = condition-names _ _ (c .before .before .before .before .wide .ensures) (c .before .before .before .wide2 .ensures) _ (c .lacks3 .ensures) (c .before .if3 .taken)
+
+mul-lacks-4 : tie.Need-mul-lacks-4
+mul-lacks-4 c = search needs
 
 add-lacks-3 : tie.Need-add-lacks-3
 add-lacks-3 c = search needs
@@ -52,6 +64,9 @@ returns-4 : tie.Need-returns-4
 returns-4 c =
     priority-names _ _ (c .before .before .before .before .before .before .wide .ensures) (c .before .before .before .before .before .wide2 .ensures) true _ (sym (c .if5 .taken) ∙ c .before .lacks4 .ensures) refl
     (c .before .before .if4 .taken)
+
+mul-lacks-5 : tie.Need-mul-lacks-5
+mul-lacks-5 c = search needs
 
 add-lacks-4 : tie.Need-add-lacks-4
 add-lacks-4 c = search needs
@@ -66,11 +81,17 @@ returns-5 c =
     (c .lacks5 .ensures)
     (c .before .before .before .if4 .taken)
 
+mul-lacks-6 : tie.Need-mul-lacks-6
+mul-lacks-6 c = search needs
+
 lacks-requires-6 : tie.Need-lacks-requires-6
 lacks-requires-6 c κs = search needs
 
 returns-6 : tie.Need-returns-6
 returns-6 c = action-names _ _ (c .before .before .before .before .before .before .wide .ensures) (c .before .before .before .before .before .wide2 .ensures) _ (c .lacks6 .ensures) (c .before .if6 .taken)
+
+mul-lacks-7 : tie.Need-mul-lacks-7
+mul-lacks-7 c = search needs
 
 add-lacks-5 : tie.Need-add-lacks-5
 add-lacks-5 c = search needs
@@ -98,22 +119,29 @@ unknown-spec =
     (tie.spec
     wide-requires
     wide-requires-2
+    mul-lacks
     lacks-requires
     returns
+    mul-lacks-2
     add-lacks
     lacks-requires-2
     returns-2
+    mul-lacks-3
     add-lacks-2
     lacks-requires-3
     returns-3
+    mul-lacks-4
     add-lacks-3
     lacks-requires-4
     returns-4
+    mul-lacks-5
     add-lacks-4
     lacks-requires-5
     returns-5
+    mul-lacks-6
     lacks-requires-6
     returns-6
+    mul-lacks-7
     add-lacks-5
     lacks-requires-7
     returns-7

@@ -11,7 +11,7 @@ returns : tie.Need-returns
 returns c = sym (lent-long _ _ _ _ _ (c .if1 .taken))
 
 first-wrong-requires : tie.Need-first-wrong-requires
-first-wrong-requires c κs = search needs
+first-wrong-requires c κs = c .before .before .before .before .before .pre
 
 returns-2 : tie.Need-returns-2
 returns-2 c =

@@ -1,13 +1,15 @@
 -- `engine::tables::judge` meets its contract: each return is a stage's verdict, behind stages that found nothing.
 use mathlib.Core.List.{List}
 use mathlib.Core.Path.{refl}
-use Prim.Native.Nat.{ℕ}
+use Prim.Native.Nat.{ℕ, _*_, _≤_}
 use native.Mathlib.Omega.{arith}
+use lib.ListN.{length}
 use Rattle.meaning.specs.Table.{table}
 use Rattle.meaning.specs.Answer.{Check}
-use Rattle.table.proofs.Firsts.{few-transitions}
+use Rattle.table.proofs.Firsts.{few-transitions, no-more-transitions}
 use Rattle.table.proofs.Reach.{no-pair}
 use Rattle.net.proofs.Reach.{gathered-blank, conflicts-blank}
+use Rattle.engine.specs.Said.{Fitting}
 use Rattle.engine.proofs.Stages.{from-6, from-7, from-8, from-9}
 use Rattle.engine.proofs.Verdict.{refusal, Faultless, Past, Ends, verdict-2, verdict-5, verdict-6, verdict-7, verdict-8}
 use Rattle.engine.proofs.Verdict.{no-fault, all-known, not-empty, none-lone, no-circle, at-the-end}
@@ -18,7 +20,7 @@ use Rattle.engine.proofs.tables.judge.Tie as tie
 
 -- The way back from each stage: to the one before it, and to the call.
 abbrev start : tie.Else1 → tie.Start
-start c = c .before .before
+start c = c .before .before .before .before .before .before
 
 abbrev one : tie.Else2 → tie.Else1
 one c = c .before .before .before
@@ -49,15 +51,15 @@ called c = start (one (two (three (four (counted (closed c))))))
 
 -- What is known of the call's table behind a stage.
 abbrev Fine : tie.Start → Type 0
-Fine s = Faultless (s .args .t .now) (s .args .pass) (s .args .index .now)
+Fine s = Faultless (s .args .t .now) (s .args .pass) (s .args .reach) (s .args .index .now)
 
 abbrev Behind : tie.Start → (List ℕ → List Check) → Type 0
-Behind s from = Past (s .args .t .now) (s .args .pass) (s .args .index .now) (from (s .args .t .now))
+Behind s from = Past (s .args .t .now) (s .args .pass) (s .args .reach) (s .args .index .now) (from (s .args .t .now))
 
 -- Behind 4, 5, 6, 7 and 8.
 behind-4 : (c : tie.Else1) → Fine (start c)
 unfolding table
-behind-4 c = no-fault _ (start c .pre .0) (start c .pre .1 .0) (c .if1 .left)
+behind-4 c = no-fault _ (start c .pre .0) (start c .pre .1 .0) (start c .pre .1 .1 .1 .1 .1 .extent) (c .if1 .left)
 
 behind-5 : (c : tie.Else2) → Behind (start (one c)) from-6
 unfolding table
@@ -72,18 +74,27 @@ behind-7 c = none-lone (behind-6 (three c)) (c .before .first-lone .ensures) (c 
 behind-8 : (c : tie.Else5) → Behind (called c) from-9
 behind-8 c = no-circle (behind-7 (four (counted (closed c)))) (closed c .close .ensures .0 .0) (c .before .circle .ensures) (c .if5 .left)
 
+-- The rows are enough, so the index has its eight for every number below the reach.
+abbrev fitting : (s : tie.Start) → Fitting (s .args .t .now) (s .args .reach) (length (s .args .index .now)) (length (s .args .takers .now)) (length (s .args .truths .now)) (length (s .args .next .now))
+fitting s = s .pre .1 .1 .1 .1 .1
+
+rows-in : (c : tie.Else1) → 8 * start c .args .reach ≤ length (start c .args .index .now)
+rows-in c =
+    let fit = fitting (start c) in
+    omega (arith, behind-4 c .least _ (fit .any) (fit .roomy), fit .rows-are)
+
 wide-requires : tie.Need-wide-requires
 wide-requires c κs = search needs
 
 returns : tie.Need-returns
 unfolding table
 returns c =
-    let call = c .before .before .before in
+    let call = c .before .before .before .before .before .before .before in
     let v = verdict-2 _ (call .pre .0) (call .pre .1 .0) (c .before .if1 .taken) in
     refusal (rw (c .wide .ensures) (v .0)) (rw (c .wide .ensures) (v .1))
 
 sound-requires : tie.Need-sound-requires
-sound-requires c κs = behind-4 c .reaching
+sound-requires c κs = (behind-4 c .reaching, rows-in c)
 
 first-unknown-requires : tie.Need-first-unknown-requires
 first-unknown-requires c κs = (behind-4 (c .before) .clean, c .sound .ensures)
@@ -93,13 +104,13 @@ unfolding table
 returns-2 c = refusal (omega arith) (verdict-5 (behind-4 (c .before .before .before)) (c .before .first-unknown .ensures) (c .if2 .taken))
 
 first-none-requires : tie.Need-first-none-requires
-first-none-requires c κs = (behind-5 c .fine .reaching, c .before .before .sound .ensures)
+first-none-requires c κs = ((behind-5 c .fine .reaching, rows-in (one c)), c .before .before .sound .ensures)
 
 returns-3 : tie.Need-returns-3
 returns-3 c = refusal (omega arith) (verdict-6 (behind-5 (c .before .before)) (c .before .first-none .ensures) (c .if3 .taken))
 
 first-lone-requires : tie.Need-first-lone-requires
-first-lone-requires c κs = (behind-6 c .fine .reaching, two c .before .before .sound .ensures)
+first-lone-requires c κs = ((behind-6 c .fine .reaching, rows-in (one (two c))), two c .before .before .sound .ensures)
 
 returns-4 : tie.Need-returns-4
 returns-4 c = refusal (omega arith) (verdict-7 (behind-6 (c .before .before)) (c .before .first-lone .ensures) (c .if4 .taken))
@@ -113,7 +124,13 @@ close-requires c κs =
     let fine = behind-7 (four here) .fine in
     let few = here .transitions .ensures in
     let call = start (one (two (three (four here)))) in
-    (record { most = omega (arith, few, few-transitions (call .args .pass .reach)); none = no-pair (fine .reaching) few }, call .pre .1 .1 .1 .1)
+    let reach : ℕ = call .args .reach in (
+      (
+        record { most = omega (arith, few, few-transitions reach); none = no-pair (fine .reaching) few },
+        omega (arith, few, no-more-transitions reach, rows-in (one (two (three (four here))))),
+      ),
+      call .pre .1 .1 .1 .1 .0,
+    )
 
 circle-requires : tie.Need-circle-requires
 circle-requires c κs = c .before .close .ensures .0 .1
@@ -126,7 +143,9 @@ returns-5 c =
 conflicts-requires : tie.Need-conflicts-requires
 conflicts-requires c κs =
     let fine = behind-8 (c .before) .fine in
-    (gathered-blank (fine .below) (fine .reaching .most) (gathers fine (called (c .before) .pre .1 .1 .0 .taking)), refl)
+    let call = called (c .before) in
+    let room : call .args .reach ≤ length (call .args .takers .now) = fine .least _ (fitting call .any) (fitting call .roomy) in
+    ((gathered-blank (fine .below) (fine .reaching .most) (gathers fine (call .pre .1 .1 .0 .taking)), room), refl)
 
 clash-requires : tie.Need-clash-requires
 clash-requires c κs =
@@ -136,7 +155,7 @@ clash-requires c κs =
     let rows = pairs .conflicts2 .ensures in
     let few = counted (closed (five pairs)) .transitions .ensures in (
       (rows .size, conflicts-blank (arcs-below past) few (gathers (past .fine) (arcs .taking)) rows),
-      (chains-all (past .fine) (arcs .chains), past .fine .few),
+      (chains-all (past .fine) (arcs .chains), fitting (called (five pairs)) .links-are),
     )
 
 -- What the search for a pair ends with.
@@ -161,6 +180,7 @@ returns-7 c =
       indexed = λ z. past .fine .clean .index;
       reaches = λ z. past .fine .reaching;
       below = λ z. both-below past;
+      least = λ z. past .fine .least;
       higher-is = λ z. turned-is (past .fine) (ranks .0 .0) (ranks .1);
     }
 

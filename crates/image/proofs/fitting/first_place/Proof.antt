@@ -1,86 +1,50 @@
--- Each turn looks through sixteen more, or sees that their bytes are 0, and none before them is wrong.
-use mathlib.Core.Bool.{true, false}
-use mathlib.Core.Logic.{⊎-elim}
-use mathlib.Core.Path.{_≡_, refl, sym}
-use Prim.Native.Nat.{ℕ, _+_, _-_, _%_, _≤_, _<_}
+-- The first n places decide where one of them is wrong; the others are 0, or are looked at too.
+use mathlib.Core.Bool.{Bool}
+use Prim.Native.Nat.{ℕ}
 use native.Mathlib.Omega.{arith}
 use borrow.Author.Needs.{needs}
-use Rattle.meaning.specs.Below.{first}
-use Rattle.meaning.proofs.Below.{first-none}
 use Rattle.table.proofs.Firsts.{none-yet}
 use Rattle.image.specs.Fit.{wrong-place-by}
-use Rattle.image.proofs.Blank.{quiet-places, seen}
-use Rattle.image.proofs.Firsts.{found-on, none-on}
+use Rattle.image.proofs.Blank.{quiet-places}
+use Rattle.image.proofs.Firsts.{found-early, none-early, none-late}
 use Rattle.image.proofs.fitting.first_place.Statement.{statement}
 use Rattle.image.proofs.fitting.first_place.Tie as tie
 
-abbrev Inv-loop : tie.InvT-loop
-Inv-loop image rows p₀ p = (p ≤ 128) × (p % 16 ≡ 0) × ((k : ℕ) → k < p → wrong-place-by image rows k ≡ false)
+-- The places' test, with what the function was given.
+abbrev test : tie.Start → ℕ → Bool
+test s = wrong-place-by (s .args .image .now) (s .args .rows .now)
 
-abbrev μ-loop : tie.MeasureT-loop
-μ-loop image rows p₀ p = 128 - p
+place-from-requires : tie.Need-place-from-requires
+place-from-requires c κs = (omega arith, c .before .before .pre, none-yet _)
 
-loop-holds : tie.Need-loop-holds Inv-loop μ-loop
-loop-holds c = (omega arith, refl, none-yet _)
+returns : tie.Need-returns
+returns c =
+    let s = c .before .before .before .before in
+    let early = c .before .place-from in
+    found-early (s .args .n) (early .result) (test s) (early .ensures) 128 (s .pre) (c .if1 .taken)
 
-mul-from : tie.Need-mul-from Inv-loop μ-loop
-mul-from c = search needs
+mul-quiet : tie.Need-mul-quiet
+mul-quiet c = search needs
 
-add-quiet : tie.Need-add-quiet Inv-loop μ-loop
-add-quiet c = search needs
-
-quiet-requires : tie.Need-quiet-requires Inv-loop μ-loop
+quiet-requires : tie.Need-quiet-requires
 quiet-requires c κs = search needs
 
-place-on-requires : tie.Need-place-on-requires Inv-loop μ-loop
-place-on-requires c κs = search needs
+returns-2 : tie.Need-returns-2
+returns-2 c =
+    let s = c .before .before .before .before .before .before in
+    let a = s .args in
+    let early = c .before .before .before .place-from in
+    none-late (a .n) (early .result) (test s) (early .ensures) 128 (c .before .before .if1 .left)
+    (quiet-places (a .image .now) (a .rows .now) (a .n) (c .before .quiet .ensures (c .if2 .taken)))
 
-add-result : tie.Need-add-result Inv-loop μ-loop
-add-result c = search needs
+place-from-requires-2 : tie.Need-place-from-requires-2
+place-from-requires-2 c κs =
+    let s = c .before .before .before .before .before .before in
+    let early = c .before .before .before .place-from in
+    (s .pre, omega arith, none-early (s .args .n) (early .result) (test s) (early .ensures) (c .before .before .if1 .left))
 
-returns : tie.Need-returns Inv-loop μ-loop
-returns c =
-    let at = c .before .before .before .before .before .loop in
-    let a = c .before .before .before .before .before .before .before .args in
-    let on = c .before .place-on in
-    found-on (at .p) 16 (on .result) (wrong-place-by (a .image .now) (a .rows .now)) (at .inv .2) (on .ensures) 128 (omega arith) (c .if2 .taken)
-
-add-p : tie.Need-add-p Inv-loop μ-loop
-add-p c = search needs
-
-loop-less : tie.Need-loop-less Inv-loop μ-loop
-loop-less c = search needs
-
-loop-again : tie.Need-loop-again Inv-loop μ-loop
-loop-again c = let at = c .before .before .before .loop in
-    let a = c .before .before .before .before .before .args in
-    let test = wrong-place-by (a .image .now) (a .rows .now) in
-    let blank : c .before .quiet .result ≡ true → 16 ≡ first 16 (λ k. test (at .p + k)) = λ e.
-    sym (first-none 16 (λ k. test (at .p + k)) (quiet-places (a .image .now) (a .rows .now) (at .p) _ _ (omega arith) refl refl (c .before .quiet .ensures e))) in (
-      omega arith,
-      omega arith,
-      ⊎-elim (λ w. none-on (at .p) 16 (w .1 .result) test (at .inv .2) (w .1 .ensures) (w .2 .left))
-          (λ w. none-on (at .p) 16 16 test (at .inv .2) (blank (seen _ (w .left))) (omega arith))
-          (c .if1 .came),
-    )
-
-returns-2 : tie.Need-returns-2 Inv-loop μ-loop
-returns-2 c = sym (first-none 128 _ (λ k h. c .before .loop .inv .2 k (omega arith)))
+returns-3 : tie.Need-returns-3
+returns-3 c = search needs
 
 pub first-place-spec : {M : Type 1} → statement M
-first-place-spec =
-    tie.close
-    (tie.spec
-    Inv-loop
-    μ-loop
-    loop-holds
-    mul-from
-    add-quiet
-    quiet-requires
-    place-on-requires
-    add-result
-    returns
-    add-p
-    loop-less
-    loop-again
-    returns-2)
+first-place-spec = tie.close (tie.spec place-from-requires returns mul-quiet quiet-requires returns-2 place-from-requires-2 returns-3)

@@ -1,90 +1,74 @@
--- Each turn looks through sixteen more, or sees that their bytes are 0, and none before them is wrong.
-use mathlib.Core.Bool.{true, false}
-use mathlib.Core.Logic.{⊎-elim}
-use mathlib.Core.Path.{_≡_, refl, sym}
-use Prim.Native.Nat.{ℕ, _+_, _-_, _%_, _≤_, _<_}
+-- Where all bytes are 0 none is wrong; else the first n transitions decide where one of them is wrong; the others are 0, or are looked at too.
+use mathlib.Core.Bool.{Bool}
+use mathlib.Core.Path.{sym}
+use Prim.Native.Nat.{ℕ}
 use native.Mathlib.Omega.{arith}
 use borrow.Author.Needs.{needs}
-use Rattle.meaning.specs.Below.{first}
 use Rattle.meaning.proofs.Below.{first-none}
 use Rattle.table.proofs.Firsts.{none-yet}
+use Rattle.timing.specs.declared.Intervals.{Intervals}
 use Rattle.image.specs.Fit.{wrong-transition-by}
-use Rattle.image.proofs.Blank.{quiet-transitions, seen}
-use Rattle.image.proofs.Firsts.{found-on, none-on}
+use Rattle.image.proofs.Blank.{quiet-transitions}
+use Rattle.image.proofs.Firsts.{found-early, none-early, none-late}
 use Rattle.image.proofs.fitting.first_transition.Statement.{statement}
 use Rattle.image.proofs.fitting.first_transition.Tie as tie
 
-abbrev Inv-loop : tie.InvT-loop
-Inv-loop image x t₀ t = (t ≤ 64) × (t % 16 ≡ 0) × ((k : ℕ) → k < t → wrong-transition-by image x k ≡ false)
+-- The timing of the transitions, and their test by it.
+abbrev timing : tie.Start → Intervals
+timing s =
+    let a = s .args in
+    record { sorts = a .sorts .now; a = a .a .now; b = a .b .now }
 
-abbrev μ-loop : tie.MeasureT-loop
-μ-loop image x t₀ t = 64 - t
+abbrev test : tie.Start → ℕ → Bool
+test s = wrong-transition-by (s .args .image .now) (timing s)
 
-loop-holds : tie.Need-loop-holds Inv-loop μ-loop
-loop-holds c = (omega arith, refl, none-yet _)
+-- The way back to the start, from the second part on.
+abbrev begun : tie.After-transition-from → tie.Start
+begun c = c .before .before .before .before
 
-add-from : tie.Need-add-from Inv-loop μ-loop
-add-from c = search needs
-
-mul-from : tie.Need-mul-from Inv-loop μ-loop
-mul-from c = search needs
-
-add-quiet : tie.Need-add-quiet Inv-loop μ-loop
-add-quiet c = search needs
-
-quiet-requires : tie.Need-quiet-requires Inv-loop μ-loop
+quiet-requires : tie.Need-quiet-requires
 quiet-requires c κs = search needs
 
-transition-on-requires : tie.Need-transition-on-requires Inv-loop μ-loop
-transition-on-requires c κs = search needs
-
-add-result : tie.Need-add-result Inv-loop μ-loop
-add-result c = search needs
-
-returns : tie.Need-returns Inv-loop μ-loop
+returns : tie.Need-returns
 returns c =
-    let at = c .before .before .before .before .before .loop in
-    let a = c .before .before .before .before .before .before .before .args in
-    let on = c .before .transition-on in
-    found-on (at .t) 16 (on .result) (wrong-transition-by (a .image .now) (a .x)) (at .inv .2) (on .ensures) 64 (omega arith) (c .if2 .taken)
+    let s = c .before .before .before in
+    sym (first-none 64 (test s) (λ t h. quiet-transitions (s .args .image .now) (timing s) 0 (c .before .quiet .ensures (c .if1 .taken)) t (omega arith) h))
 
-add-t : tie.Need-add-t Inv-loop μ-loop
-add-t c = search needs
+transition-from-requires : tie.Need-transition-from-requires
+transition-from-requires c κs = (omega arith, c .before .before .before .pre, none-yet _)
 
-loop-less : tie.Need-loop-less Inv-loop μ-loop
-loop-less c = search needs
+returns-2 : tie.Need-returns-2
+returns-2 c =
+    let s = begun (c .before) in
+    let early = c .before .transition-from in
+    found-early (s .args .n) (early .result) (test s) (early .ensures) 64 (s .pre) (c .if2 .taken)
 
-loop-again : tie.Need-loop-again Inv-loop μ-loop
-loop-again c = let at = c .before .before .before .loop in
-    let a = c .before .before .before .before .before .args in
-    let test = wrong-transition-by (a .image .now) (a .x) in
-    let blank : c .before .quiet .result ≡ true → 16 ≡ first 16 (λ k. test (at .t + k)) = λ e.
-    sym (first-none 16 (λ k. test (at .t + k)) (quiet-transitions (a .image .now) (a .x) (at .t) _ _ (omega arith) refl refl (c .before .quiet .ensures e))) in (
-      omega arith,
-      omega arith,
-      ⊎-elim (λ w. none-on (at .t) 16 (w .1 .result) test (at .inv .2) (w .1 .ensures) (w .2 .left))
-          (λ w. none-on (at .t) 16 16 test (at .inv .2) (blank (seen _ (w .left))) (omega arith))
-          (c .if1 .came),
-    )
+mul-quiet : tie.Need-mul-quiet
+mul-quiet c = search needs
 
-returns-2 : tie.Need-returns-2 Inv-loop μ-loop
-returns-2 c = sym (first-none 64 _ (λ k h. c .before .loop .inv .2 k (omega arith)))
+add-quiet : tie.Need-add-quiet
+add-quiet c = search needs
+
+quiet-requires-2 : tie.Need-quiet-requires-2
+quiet-requires-2 c κs = search needs
+
+returns-3 : tie.Need-returns-3
+returns-3 c =
+    let s = begun (c .before .before .before) in
+    let early = c .before .before .before .transition-from in
+    none-late (s .args .n) (early .result) (test s) (early .ensures) 64 (c .before .before .if2 .left)
+    (quiet-transitions (s .args .image .now) (timing s) (s .args .n) (c .before .quiet2 .ensures (c .if3 .taken)))
+
+transition-from-requires-2 : tie.Need-transition-from-requires-2
+transition-from-requires-2 c κs =
+    let s = begun (c .before .before .before) in
+    let early = c .before .before .before .transition-from in
+    (s .pre, omega arith, none-early (s .args .n) (early .result) (test s) (early .ensures) (c .before .before .if2 .left))
+
+returns-4 : tie.Need-returns-4
+returns-4 c = search needs
 
 pub first-transition-spec : {M : Type 1} → statement M
 first-transition-spec =
     tie.close
-    (tie.spec
-    Inv-loop
-    μ-loop
-    loop-holds
-    add-from
-    mul-from
-    add-quiet
-    quiet-requires
-    transition-on-requires
-    add-result
-    returns
-    add-t
-    loop-less
-    loop-again
-    returns-2)
+    (tie.spec quiet-requires returns transition-from-requires returns-2 mul-quiet add-quiet quiet-requires-2 returns-3 transition-from-requires-2 returns-4)

@@ -1,4 +1,7 @@
 -- `keep` meets its contract: the cell of an input arc takes what the arc says, in each array.
+use Prim.Native.Nat.{_<_}
+use native.Mathlib.Omega.{arith}
+use lib.ListN.{length-set}
 use borrow.Author.Needs.{needs}
 use Rattle.net.proofs.Step.{kept-more}
 use Rattle.net.proofs.laying.keep.Statement.{statement}
@@ -14,23 +17,30 @@ index-1-w : tie.Need-index-1-w
 index-1-w c = c .pre .0
 
 index-2-w : tie.Need-index-2-w
-index-2-w c = c .pre .1
+index-2-w c = c .pre .2
 
 mul-s : tie.Need-mul-s
 mul-s c = search needs
 
 index-1-s : tie.Need-index-1-s
-index-1-s c = c .pre .0
+index-1-s c = c .pre .1
 
 index-2-s : tie.Need-index-2-s
-index-2-s c = c .pre .1
+index-2-s c = c .pre .2
 
 returns : tie.Need-returns
-returns c tb r here four sort kw ks =
-    let at = c .args in (
-      kept-more tb (tb .four) r _ kw (at .p) (at .t) (c .pre .0) (c .pre .1) here _ four,
-      kept-more tb (tb .sort) r _ ks (at .p) (at .t) (c .pre .0) (c .pre .1) here _ sort,
+returns c tb rows r here four sort kw ks =
+    let at = c .args in
+    let place : at .p < rows = omega (arith, c .pre .0, kw .places) in (
+      kept-more tb (tb .four) rows r _ kw (at .p) (at .t) place (c .pre .2) here _ four,
+      kept-more tb (tb .sort) rows r _ ks (at .p) (at .t) place (c .pre .2) here _ sort,
     )
 
+same-length : tie.Need-same-length
+same-length c = length-set (c .args .w .now) _ _
+
+same-length-2 : tie.Need-same-length-2
+same-length-2 c = length-set (c .args .s .now) _ _
+
 pub keep-spec : {M : Type 1} → statement M
-keep-spec = tie.close (tie.spec mul-w mul-w-2 index-1-w index-2-w mul-s index-1-s index-2-s returns)
+keep-spec = tie.close (tie.spec mul-w mul-w-2 index-1-w index-2-w mul-s index-1-s index-2-s same-length same-length-2 returns)

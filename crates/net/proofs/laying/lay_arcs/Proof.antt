@@ -3,11 +3,12 @@
 use mathlib.Core.Bool.{Bool, true, false, cond, _&&_, and-false}
 use mathlib.Core.List.{List}
 use mathlib.Core.Logic.{inl, inr}
-use mathlib.Core.Path.{_≡_, refl, sym, _∙_, subst}
+use mathlib.Core.Path.{_≡_, refl, sym, ap, _∙_, subst}
 use Prim.Native.Nat.{ℕ, _+_, _*_, _-_, _≤_, _<_}
 use native.Mathlib.Numerals.{add-one}
 use native.Mathlib.Omega.{arith}
 use lib.Dec.{ltb}
+use lib.ListN.{length, length-replicate}
 use borrow.Author.Needs.{needs}
 use borrow.Author.Tests.{eq-eqb, ne-eqb, lt-ltb, le-ltb}
 use Rattle.meaning.specs.Below.{sum}
@@ -15,11 +16,11 @@ use Rattle.meaning.specs.Table.{Table, table, total, is, arc}
 use Rattle.meaning.proofs.Bool.{and-true}
 use Rattle.records.specs.Record.{Reads}
 use Rattle.net.specs.Rows.{input}
-use Rattle.net.specs.Grow.{names, Grown, Kept}
+use Rattle.net.specs.Grow.{names, Grown-all, Kept}
 use Rattle.net.specs.Chains.{between, asking, Enters}
 use Rattle.net.proofs.Arcs.{arc-ranges, arc-sort, few-records}
 use Rattle.net.proofs.Filing.{others, no-kind, no-sort, gathered}
-use Rattle.net.proofs.Step.{all-read, grown-none, kept-none, kept-same}
+use Rattle.net.proofs.Step.{all-read, empty, grown-none, kept-none, kept-same}
 use Rattle.net.proofs.Touching.{reached-none, reached-same}
 use Rattle.net.proofs.laying.lay_arcs.Statement.{statement}
 use Rattle.net.proofs.laying.lay_arcs.Tie as tie
@@ -28,14 +29,14 @@ use Rattle.net.proofs.laying.lay_arcs.Tie as tie
 abbrev put-by : Table → ℕ → ℕ
 put-by tb k = cond (arc tb 3 k) (tb .four k) 0
 
--- The weights and the sorts of the first r records.
-abbrev Cells : Table → ℕ → List (List ℕ) → List (List ℕ) → Type 0
-Cells tb r w s = Kept tb (tb .four) r w × Kept tb (tb .sort) r s
+-- The weights and the sorts of the first r records, in so many rows each.
+abbrev Cells : Table → ℕ → ℕ → List (List ℕ) → List (List ℕ) → Type 0
+Cells tb rows r w s = Kept tb (tb .four) rows r w × Kept tb (tb .sort) rows r s
 
 -- What the first r records have left.
-record Part (tb : Table) (r : ℕ) (w s : List (List ℕ)) (curbs low high : List ℕ) (gain : ℕ) : Type 0 where
-  cells : Cells tb r w s
-  curbing : Grown 128 r (names tb 3 2) curbs
+record Part (tb : Table) (rows r : ℕ) (w s : List (List ℕ)) (curbs low high : List ℕ) (gain : ℕ) : Type 0 where
+  cells : Cells tb rows r w s
+  curbing : Grown-all 128 r (names tb 3 2) curbs
   entering : Enters tb r low high
   gains : gain ≡ sum r (put-by tb)
   most : gain ≤ 65535 * r
@@ -58,11 +59,11 @@ an-input : (tb : Table) (r p t : ℕ) → tb .kind r ≡ 3 → tb .sort r < 3 �
 an-input tb r p t k l one two =
     and-true (and-true (and-true (eq-eqb _ _ k) (lt-ltb (tb .sort r) 3 l)) (eq-eqb (tb .one r) p (sym one))) (eq-eqb (tb .two r) t (sym two))
 
-module _ (tb : Table) (r : ℕ) (w s : List (List ℕ)) (curbs low high : List ℕ) (gain : ℕ)
-    (g : Part tb r w s curbs low high gain) where
+module _ (tb : Table) (rows r : ℕ) (w s : List (List ℕ)) (curbs low high : List ℕ) (gain : ℕ)
+    (g : Part tb rows r w s curbs low high gain) where
   -- A record that is no input arc fills no cells.
-  cells-same : (is tb 3 r && ltb (tb .sort r) 3) ≡ false → Cells tb (r + 1) w s
-  cells-same e = (kept-same tb (tb .four) r w (g .cells .0) e, kept-same tb (tb .sort) r s (g .cells .1) e)
+  cells-same : (is tb 3 r && ltb (tb .sort r) 3) ≡ false → Cells tb rows (r + 1) w s
+  cells-same e = (kept-same tb (tb .four) rows r w (g .cells .0) e, kept-same tb (tb .sort) rows r s (g .cells .1) e)
 
   -- A record that is no post arc puts nothing, and a post arc its weight.
   no-gain : arc tb 3 r ≡ false → gain ≡ sum (r + 1) (put-by tb)
@@ -74,22 +75,22 @@ module _ (tb : Table) (r : ℕ) (w s : List (List ℕ)) (curbs low high : List �
   more-gain e = rw (add-one r, e) (omega (arith, g .gains))
 
   -- A record that is no inhibitor arc curbs nobody.
-  uncurbed : ¬ (tb .sort r ≡ 2) → Grown 128 (r + 1) (names tb 3 2) curbs
-  uncurbed n = others tb r 3 2 (g .curbing) (no-sort tb r 3 2 n)
+  uncurbed : ¬ (tb .sort r ≡ 2) → Grown-all 128 (r + 1) (names tb 3 2) curbs
+  uncurbed n = (g .curbing .0, others tb r 3 2 (g .curbing .1) (no-sort tb r 3 2 n))
 
   -- Record r is no arc; a post arc; an input arc.
-  no-arc-more : ¬ (tb .kind r ≡ 3) → Part tb (r + 1) w s curbs low high gain
+  no-arc-more : ¬ (tb .kind r ≡ 3) → Part tb rows (r + 1) w s curbs low high gain
   no-arc-more n =
       record {
         cells = cells-same (no-arc tb r n _);
-        curbing = others tb r 3 2 (g .curbing) (no-kind tb r 3 2 n);
+        curbing = (g .curbing .0, others tb r 3 2 (g .curbing .1) (no-kind tb r 3 2 n));
         entering = reached-same tb (asking tb) r low high (g .entering) (no-arc tb r n _);
         gains = no-gain (no-arc tb r n _);
         most = omega (arith, g .most);
       }
 
   module _ (kind : tb .kind r ≡ 3) where
-    post-more : tb .sort r ≡ 3 → (v : ℕ) → v ≡ tb .four r → v ≤ 65535 → Part tb (r + 1) w s curbs low high (gain + v)
+    post-more : tb .sort r ≡ 3 → (v : ℕ) → v ≡ tb .four r → v ≤ 65535 → Part tb rows (r + 1) w s curbs low high (gain + v)
     post-more sort v weight small =
         record {
           cells = cells-same (past-sort tb r sort);
@@ -99,8 +100,8 @@ module _ (tb : Table) (r : ℕ) (w s : List (List ℕ)) (curbs low high : List �
           most = omega (arith, g .most);
         }
 
-    input-more : ¬ (tb .sort r ≡ 3) → (w′ s′ : List (List ℕ)) → Cells tb (r + 1) w′ s′ → (low′ high′ : List ℕ) → Enters tb (r + 1) low′ high′
-        → (curbs′ : List ℕ) → Grown 128 (r + 1) (names tb 3 2) curbs′ → Part tb (r + 1) w′ s′ curbs′ low′ high′ gain
+    input-more : ¬ (tb .sort r ≡ 3) → (w′ s′ : List (List ℕ)) → Cells tb rows (r + 1) w′ s′ → (low′ high′ : List ℕ) → Enters tb (r + 1) low′ high′
+        → (curbs′ : List ℕ) → Grown-all 128 (r + 1) (names tb 3 2) curbs′ → Part tb rows (r + 1) w′ s′ curbs′ low′ high′ gain
     input-more no-post w′ s′ cells low′ high′ entering curbs′ curbing =
         record {
           cells = cells;
@@ -116,7 +117,7 @@ there tb of r t p here two one = and-true (and-true here (eq-eqb (tb .two r) t (
 
 abbrev Inv-loop : tie.InvT-loop
 Inv-loop t w₀ s₀ curbs₀ low₀ high₀ n gain₀ r₀ w s curbs low high gain r =
-    (r ≤ n) × Part (table t) r w s curbs low high gain
+    (r ≤ n) × Part (table t) (length w₀) r w s curbs low high gain
 
 abbrev μ-loop : tie.MeasureT-loop
 μ-loop t w₀ s₀ curbs₀ low₀ high₀ n gain₀ r₀ w s curbs low high gain r = n - r
@@ -125,13 +126,17 @@ loop-holds : tie.Need-loop-holds Inv-loop μ-loop
 unfolding sum
 loop-holds c =
     let tb : Table = table (c .before .args .t .now) in
+    let rows : ℕ = length (c .before .args .w .now) in
     let pre = c .before .pre .1 in
     let first = pre .0 in
-    let second = pre .1 in (
+    let second = pre .1 .0 in (
       omega arith,
-      rw (first .0, first .1, first .2, second .0, second .1)
+      rw (first .2, second .0, second .1)
           (record {
-            cells = (kept-none tb (tb .four), kept-none tb (tb .sort));
+            cells = (
+              subst (Kept tb (tb .four) rows 0) (sym (first .0)) (kept-none tb (tb .four) rows),
+              subst (Kept tb (tb .sort) rows 0) (sym (first .1)) (kept-none tb (tb .sort) rows),
+            );
             curbing = grown-none 128 (names tb 3 2);
             entering = reached-none tb (asking tb);
             gains = refl;
@@ -149,12 +154,13 @@ wide-requires-2 : tie.Need-wide-requires-2 Inv-loop μ-loop
 wide-requires-2 c κs = search needs
 
 -- The record at hand is one of at most 1,024, and where it is an arc its place is one of the 128, its transition one of the 64, its weight small, and
--- its sort one of the four.
+-- its sort one of the four; its place has a row.
 in-range : (c : tie.After-wide2 Inv-loop μ-loop)
     → let read = c .before .before in
     (read .before .before .loop .r < 1024)
     × (read .read .result .kind ≡ 3
-    → (c .before .wide .result < 128) × (c .wide2 .result < 64) × (read .read .result .four ≤ 65535) × (read .read .result .sort ≤ 3))
+    → (c .before .wide .result < 128) × (c .wide2 .result < 64) × (read .read .result .four ≤ 65535) × (read .read .result .sort ≤ 3)
+    × (c .before .wide .result < length (read .before .before .before .before .args .w .now)))
 unfolding table
 in-range c =
     let read = c .before .before in
@@ -169,6 +175,7 @@ in-range c =
             omega (arith, c .wide2 .ensures, reads .two, range .1),
             omega (arith, reads .four, range .3),
             omega (arith, reads .sort, arc-sort bs e r (omega arith) (sym (reads .kind) ∙ k)),
+            omega (arith, c .before .wide .ensures, reads .one, read .before .before .before .before .pre .1 .1 .1 r (omega arith)),
           ),
     )
 
@@ -184,18 +191,19 @@ add-gain c =
 keep-requires : tie.Need-keep-requires Inv-loop μ-loop
 keep-requires c κs =
     let then1 = c .before .before .before .before in
+    let cells = then1 .before .before .before .before .before .before .loop .inv .1 .cells in
     let w = in-range (then1 .before .before) .1 (then1 .if1 .taken) in
-    (w .0, w .1)
+    (omega (arith, w .4, cells .0 .places), omega (arith, w .4, cells .1 .places), w .1)
 
 touch-requires : tie.Need-touch-requires Inv-loop μ-loop
 touch-requires c κs =
-    let then1 = c .before .before .before .before .before .before .before in
+    let then1 = c .before .before .before .before .before .before .before .before .before in
     let w = in-range (then1 .before .before) .1 (then1 .if1 .taken) in
     (w .1, w .0)
 
 curb-requires : tie.Need-curb-requires Inv-loop μ-loop
 curb-requires c κs =
-    let then1 = c .before .before .before .before .before .before .before .before .before in
+    let then1 = c .before .before .before .before .before .before .before .before .before .before .before in
     let w = in-range (then1 .before .before) .1 (then1 .if1 .taken) in
     (w .0, w .1)
 
@@ -225,28 +233,39 @@ loop-again c =
       elim (c .if1 .came) [
         | inl w ↦
             rw (w .4, w .5, w .6, w .7, w .8, w .9)
-            (post-more tb r _ _ _ _ _ _ here (kind (w .0 .taken)) (sym (reads .sort) ∙ w .2 .taken) _ (reads .four) (range .1 (w .0 .taken) .2))
+            (post-more tb _ r _ _ _ _ _ _ here (kind (w .0 .taken)) (sym (reads .sort) ∙ w .2 .taken) _ (reads .four) (range .1 (w .0 .taken) .2))
         | inr (inl w) ↦
-            rw (w .11, w .12, w .13, w .14, w .15, w .16)
-            (input-more tb r _ _ _ _ _ _ here (kind (w .0 .taken)) (λ z. w .2 .left (reads .sort ∙ z)) _ _
-            (w .5 .ensures tb r (an-input tb r _ _ (kind (w .0 .taken)) (low (w .0 .taken) (w .2 .left)) one two) (reads .four) (reads .sort) (here .cells .0) (here .cells .1)) _ _
-            (w .8 .ensures tb (asking tb) r (there tb (asking tb) r _ _ (asks (w .0 .taken) (w .2 .left)) two one) (here .entering)) _
-            (w .10 .ensures tb r (kind (w .0 .taken)) one two (reads .sort) (here .curbing)))
-        | inr (inr w) ↦ rw (w .1, w .2, w .3, w .4, w .5, w .6) (no-arc-more tb r _ _ _ _ _ _ here (λ z. w .0 .left (reads .kind ∙ z)))
+            rw (w .13, w .14, w .15, w .16, w .17, w .18)
+            (input-more tb _ r _ _ _ _ _ _ here (kind (w .0 .taken)) (λ z. w .2 .left (reads .sort ∙ z)) _ _
+            (w .5 .ensures tb _ r (an-input tb r _ _ (kind (w .0 .taken)) (low (w .0 .taken) (w .2 .left)) one two) (reads .four) (reads .sort) (here .cells .0) (here .cells .1)) _ _
+            (w .10 .ensures tb (asking tb) r (there tb (asking tb) r _ _ (asks (w .0 .taken) (w .2 .left)) two one) (here .entering)) _
+            (w .12 .ensures tb r (kind (w .0 .taken)) one two (reads .sort) (here .curbing)))
+        | inr (inr w) ↦ rw (w .1, w .2, w .3, w .4, w .5, w .6) (no-arc-more tb _ r _ _ _ _ _ _ here (λ z. w .0 .left (reads .kind ∙ z)))
       ],
     )
+
+same-length : tie.Need-same-length Inv-loop μ-loop
+same-length c = c .before .loop .inv .1 .cells .0 .places
+
+same-length-2 : tie.Need-same-length-2 Inv-loop μ-loop
+same-length-2 c = c .before .loop .inv .1 .cells .1 .places ∙ sym (both c)
+  where
+    -- Both arrays have the same number of rows.
+    both : (c : tie.After-loop Inv-loop μ-loop) → length (c .before .before .before .args .s .now) ≡ length (c .before .before .before .args .w .now)
+    both c = ap (λ (z : List (List ℕ)). length z) (c .before .before .before .pre .1 .0 .1) ∙ length-replicate (length (c .before .before .before .args .w .now)) empty
 
 returns : tie.Need-returns Inv-loop μ-loop
 unfolding total
 returns c =
     let at = c .before .loop in
     let bs = c .before .before .before .args .t .now in
+    let rows : ℕ = length (c .before .before .before .args .w .now) in
     let done = all-read bs (at .r) (at .inv .0) (c .loop-test .left) in
-    let part : ℕ → Type 0 = λ k. Part (table bs) k (at .w) (at .s) (at .curbs) (at .low) (at .high) (at .gain) in
+    let part : ℕ → Type 0 = λ k. Part (table bs) rows k (at .w) (at .s) (at .curbs) (at .low) (at .high) (at .gain) in
     let all = subst part done (at .inv .1) in
     let low : at .gain ≤ 67107840 = omega (arith, all .most, few-records bs (c .before .before .before .pre .0)) in (
       (record { holds = all .cells .0 .holds }, record { holds = all .cells .1 .holds }),
-      (gathered (table bs) 3 2 (all .curbing), (all .entering, (all .gains, low))),
+      (gathered (table bs) 3 2 (all .curbing .1), (all .entering, (all .gains, low))),
     )
 
 pub lay-arcs-spec : {M : Type 1} → statement M
@@ -267,4 +286,6 @@ lay-arcs-spec =
     add-r
     loop-less
     loop-again
+    same-length
+    same-length-2
     returns)

@@ -1,26 +1,24 @@
--- The loop keeps that none of the sixteen before i is wrong.
-use mathlib.Core.Bool.{false}
+-- The loop keeps that no transition before t is wrong.
+use mathlib.Core.Bool.{Bool, false}
 use mathlib.Core.Path.{_≡_, sym, _∙_}
-use Prim.Native.Nat.{ℕ, _+_, _-_, _≤_, _<_}
+use Prim.Native.Nat.{ℕ, _-_, _≤_, _<_}
 use native.Mathlib.Omega.{arith}
 use borrow.Author.Needs.{needs}
 use Rattle.meaning.proofs.Below.{first-is, first-none}
-use Rattle.table.proofs.Firsts.{none-yet, none-more}
+use Rattle.table.proofs.Firsts.{none-more}
 use Rattle.image.specs.Fit.{wrong-transition-by}
-use Rattle.image.proofs.fitting.transition_on.Statement.{statement}
-use Rattle.image.proofs.fitting.transition_on.Tie as tie
+use Rattle.image.proofs.fitting.transition_from.Statement.{statement}
+use Rattle.image.proofs.fitting.transition_from.Tie as tie
 
 abbrev Inv-loop : tie.InvT-loop
-Inv-loop image t x i₀ i = (i ≤ 16) × ((k : ℕ) → k < i → wrong-transition-by image x (t + k) ≡ false)
+Inv-loop image sorts a b from to t₀ t =
+    (t ≤ to) × (to ≤ 64) × ((k : ℕ) → k < t → wrong-transition-by image (record { sorts = sorts; a = a; b = b }) k ≡ false)
 
 abbrev μ-loop : tie.MeasureT-loop
-μ-loop image t x i₀ i = 16 - i
+μ-loop image sorts a b from to t₀ t = to - t
 
 loop-holds : tie.Need-loop-holds Inv-loop μ-loop
-loop-holds c = (omega arith, none-yet _)
-
-add-k : tie.Need-add-k Inv-loop μ-loop
-add-k c = search needs
+loop-holds c = c .before .pre
 
 add-record : tie.Need-add-record Inv-loop μ-loop
 add-record c = search needs
@@ -52,10 +50,14 @@ element-copy-out-wrong-transition-3 c = search needs
 wrong-transition-requires : tie.Need-wrong-transition-requires Inv-loop μ-loop
 wrong-transition-requires c κs = search needs
 
+-- The transitions' test, with what the function was given.
+abbrev test : tie.Start Inv-loop μ-loop → ℕ → Bool
+test s = let a = s .args in wrong-transition-by (a .image .now) (record { sorts = a .sorts .now; a = a .a .now; b = a .b .now })
+
 -- The test of a transition is that of its bytes and its timing.
 tested : (c : tie.After-wrong-transition Inv-loop μ-loop)
     → let at = c .before .before .before .before .before .before .before .before in
-    let a = at .before .before .args in c .wrong-transition .result ≡ wrong-transition-by (a .image .now) (a .t2) (a .t + at .loop .i)
+    c .wrong-transition .result ≡ test (at .before .before) (at .loop .t)
 unfolding wrong-transition-by
 tested c =
     rw (
@@ -67,11 +69,11 @@ tested c =
 
 returns : tie.Need-returns Inv-loop μ-loop
 returns c =
-    let at = c .before .before .before .before .before .before .before .before .before in
-    sym (first-is 16 _ (at .loop .i) (omega arith) (sym (tested (c .before)) ∙ c .if1 .taken) (at .loop .inv .1))
+    let at = c .before .before .before .before .before .before .before .before .before .loop in
+    sym (first-is _ _ (at .t) (omega arith) (sym (tested (c .before)) ∙ c .if1 .taken) (at .inv .2))
 
-add-i : tie.Need-add-i Inv-loop μ-loop
-add-i c = search needs
+add-t : tie.Need-add-t Inv-loop μ-loop
+add-t c = search needs
 
 loop-less : tie.Need-loop-less Inv-loop μ-loop
 loop-less c = search needs
@@ -79,20 +81,18 @@ loop-less c = search needs
 loop-again : tie.Need-loop-again Inv-loop μ-loop
 loop-again c =
     let at = c .before .before .before .before .before .before .before .before .before in
-    let a = at .before .before .args in
-    (omega arith, none-more (at .loop .i) (λ k. wrong-transition-by (a .image .now) (a .t2) (a .t + k)) (at .loop .inv .1) (sym (tested (c .before)) ∙ c .if1 .left))
+    (omega arith, at .loop .inv .1, none-more (at .loop .t) (test (at .before .before)) (at .loop .inv .2) (sym (tested (c .before)) ∙ c .if1 .left))
 
 returns-2 : tie.Need-returns-2 Inv-loop μ-loop
-returns-2 c = sym (first-none 16 _ (λ k h. c .before .loop .inv .1 k (omega arith)))
+returns-2 c = sym (first-none _ _ (λ k h. c .before .loop .inv .2 k (omega arith)))
 
-pub transition-on-spec : {M : Type 1} → statement M
-transition-on-spec =
+pub transition-from-spec : {M : Type 1} → statement M
+transition-from-spec =
     tie.close
     (tie.spec
     Inv-loop
     μ-loop
     loop-holds
-    add-k
     add-record
     number-requires
     third-requires
@@ -104,7 +104,7 @@ transition-on-spec =
     element-copy-out-wrong-transition-3
     wrong-transition-requires
     returns
-    add-i
+    add-t
     loop-less
     loop-again
     returns-2)
