@@ -2,7 +2,7 @@
 ghost use mathlib.Core.Bool.{true, false, _&&_};
 ghost use mathlib.Core.Path.{_≡_};
 ghost use Prim.Native.Nat.{ℕ, _+_, _-_, _≤_, _<_};
-ghost use lib.ListN.{length, getD, replicate};
+ghost use lib.ListN.{length, getD};
 ghost use Rattle.meaning.specs.Below.{some};
 ghost use Rattle.meaning.specs.Bytes.{bit};
 ghost use Rattle.net.specs.Rows.{Blank-from};
@@ -80,19 +80,20 @@ fn decide(
     !stopped_from(m, w, s, takers, high, 64, g, t)
 }
 
-// One round: of those left, whoever has none of them above it is decided, against the members of `out` above it. The weights, sorts and
-// takers have a row for each place of the words `low` and `high`.
+// One round: of those left, whoever has none of them above it is decided, against the members of `out` above it. Whoever is left has its rows, and the
+// weights, sorts and takers have a row for each place of the words `low` and `high`.
 fn one_round(
     left: u64,
     out: u64,
-    higher: &[u64; 64],
+    higher: &[u64],
     m: &[u32; 128],
     w: &[[u16; 64]],
     s: &[[u8; 64]],
     takers: &[u64],
-    low: &[u64; 64],
-    high: &[u64; 64],
+    low: &[u64],
+    high: &[u64],
 ) -> Split
+    requires { ⌜ ((t : ℕ) → t < 64 → bit left t ≡ true → (t < length (now higher)) × (t < length (now low)) × (t < length (now high))) ⌝ }
     requires { ⌜ ((t : ℕ) → t < 64 → Housed (length (now w)) (getD (now low) t 0) (getD (now high) t 0) × Housed (length (now s)) (getD (now low) t 0) (getD (now high) t 0) × Housed (length (now takers)) (getD (now low) t 0) (getD (now high) t 0)) ⌝ }
     ensures { λ x. ⌜ Round left out (now (higher .entry)) (now (m .entry)) (now (w .entry)) (now (s .entry)) (now (takers .entry)) (now (low .entry)) (now (high .entry)) x ⌝ }
 {
@@ -118,20 +119,21 @@ fn one_round(
 }
 
 // The fired set. Whoever has nobody above it fires at once, if firable; `lower` has those that somebody stands above, and they are decided in
-// at most 64 rounds, those of rank k by round k. Rows of rivals give the same set as rows of all that stand above. The weights, sorts and
-// takers have a row for each place of the words `low` and `high`.
+// at most 64 rounds, those of rank k by round k; they have their rows. Rows of rivals give the same set as rows of all that stand above. The weights,
+// sorts and takers have a row for each place of the words `low` and `high`.
 pub fn fired(
     able: u64,
     lower: u64,
-    higher: &[u64; 64],
+    higher: &[u64],
     m: &[u32; 128],
     w: &[[u16; 64]],
     s: &[[u8; 64]],
     takers: &[u64],
-    low: &[u64; 64],
-    high: &[u64; 64],
+    low: &[u64],
+    high: &[u64],
 ) -> u64
     requires { ⌜ Ranks (now higher) ⌝ }
+    requires { ⌜ ((t : ℕ) → t < 64 → bit lower t ≡ true → (t < length (now higher)) × (t < length (now low)) × (t < length (now high))) ⌝ }
     requires { ⌜ ((t : ℕ) → t < 64 → bit lower t ≡ false → (u : ℕ) → u < 64 → bit (getD (now higher) t 0) u ≡ false) ⌝ }
     requires { ⌜ ((t : ℕ) → t < 64 → Housed (length (now w)) (getD (now low) t 0) (getD (now high) t 0) × Housed (length (now s)) (getD (now low) t 0) (getD (now high) t 0) × Housed (length (now takers)) (getD (now low) t 0) (getD (now high) t 0)) ⌝ }
     ensures { λ r. ⌜ Fires able (now (higher .entry)) (now (m .entry)) (now (w .entry)) (now (s .entry)) (now (takers .entry)) (now (low .entry)) (now (high .entry)) r ⌝ }
@@ -176,24 +178,16 @@ fn rivals_of(above: u64, takers: &[u64], low: u64, high: u64) -> u64
     above & sets::union(takers_from(takers, low, 0), takers_from(takers, high, 64))
 }
 
-// For each transition its rivals: those above it that take from a place from which it has an input arc. Answers who has rivals. From n on nobody
-// stands above a transition, and the rows are lent empty.
-pub fn rivals(
-    higher: &[u64; 64],
-    takers: &[u64],
-    low: &[u64; 64],
-    high: &[u64; 64],
-    rows: &mut [u64; 64],
-    n: usize,
-) -> u64
-    requires { ⌜ Blank-from 64 n (now higher) ⌝ }
-    requires { ⌜ now rows ≡ replicate 64 0 ⌝ }
-    ensures { λ r. ⌜ Rivals (now (higher .entry)) (now (takers .entry)) (now (low .entry)) (now (high .entry)) (now (rows .exit)) r ⌝ }
+// Of those above each transition, which the rows have, its rivals are left: those that take from a place from which it has an input arc. Answers who has
+// rivals. From n on nobody stands above a transition, and up to there each has its rows.
+pub fn rivals(takers: &[u64], low: &[u64], high: &[u64], rows: &mut [u64], n: usize) -> u64
+    requires { ⌜ Blank-from 64 n (now rows) × (n ≤ length (now rows)) × (n ≤ length (now low)) × (n ≤ length (now high)) ⌝ }
+    ensures { λ r. ⌜ Rivals (now (rows .entry)) (now (takers .entry)) (now (low .entry)) (now (high .entry)) (now (rows .exit)) r ⌝ }
 {
     let mut lower = 0u64;
     let mut t = 0;
     while t < n {
-        let row = rivals_of(higher[t], takers, low[t], high[t]);
+        let row = rivals_of(rows[t], takers, low[t], high[t]);
         rows[t] = row;
         lower = enabled::with_if(lower, t, row != 0);
         t += 1;

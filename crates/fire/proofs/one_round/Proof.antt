@@ -6,7 +6,7 @@ use Prim.Native.Nat.{ℕ, _<_, _^_}
 use native.Mathlib.Omega.{arith}
 use lib.Bits.{bitAnd}
 use lib.Dec.{eqb, ltb}
-use lib.ListN.{getD}
+use lib.ListN.{length, getD}
 use borrow.Author.Needs.{needs}
 use Rattle.meaning.specs.Bytes.{bit}
 use Rattle.meaning.proofs.Bool.{and-left}
@@ -27,9 +27,13 @@ Inv-loop left out higher m w s takers low high todo₀ keep₀ more₀ todo keep
 abbrev μ-loop : tie.MeasureT-loop
 μ-loop left out higher m w s takers low high todo₀ keep₀ more₀ todo keep more = todo
 
+-- The way back to the call.
+abbrev start : tie.At-loop Inv-loop μ-loop → tie.Start Inv-loop μ-loop
+start c = c .before .before .before .before .before
+
 loop-holds : tie.Need-loop-holds Inv-loop μ-loop
 loop-holds c =
-    let a = c .before .args in
+    let a = c .before .before .before .before .args in
     (omega arith, λ t e. e, none-passed 0 (a .left) _, none-passed (a .out) (a .left) _)
 
 lowest-requires : tie.Need-lowest-requires Inv-loop μ-loop
@@ -40,11 +44,19 @@ member : (c : tie.After-lowest Inv-loop μ-loop) → (c .lowest .result < 64) ×
 member c =
     lowest-in (c .before .before .loop .todo) (c .lowest .result) (c .before .before .loop .inv .0) (c .before .loop-test .taken) (c .lowest .ensures)
 
+-- It has its rows.
+has-rows : (c : tie.After-lowest Inv-loop μ-loop) → let a = start (c .before .before) .args in
+    let t = c .lowest .result in
+    (t < length (a .higher .now)) × (t < length (a .low .now)) × (t < length (a .high .now))
+has-rows c =
+    let at = c .before .before in
+    start at .pre .0 (c .lowest .result) (member c .0) (at .loop .inv .1 (c .lowest .result) (member c .1))
+
 mul-above : tie.Need-mul-above Inv-loop μ-loop
 mul-above c = omega (arith, member c .0)
 
-element-copy-out-above : tie.Need-element-copy-out-above Inv-loop μ-loop
-element-copy-out-above c = member c .0
+shared-slice-read-above : tie.Need-shared-slice-read-above Inv-loop μ-loop
+shared-slice-read-above c = has-rows (c .before) .0
 
 meet-requires : tie.Need-meet-requires Inv-loop μ-loop
 meet-requires c κs = search needs
@@ -55,20 +67,20 @@ with-requires c κs = search needs
 mul-decide : tie.Need-mul-decide Inv-loop μ-loop
 mul-decide c = omega (arith, member (c .before .before .before) .0)
 
-element-copy-out-decide : tie.Need-element-copy-out-decide Inv-loop μ-loop
-element-copy-out-decide c = member (c .before .before .before) .0
+shared-slice-read-decide : tie.Need-shared-slice-read-decide Inv-loop μ-loop
+shared-slice-read-decide c = has-rows (c .before .before .before .before) .1
 
 mul-decide-2 : tie.Need-mul-decide-2 Inv-loop μ-loop
 mul-decide-2 c = omega (arith, member (c .before .before .before .before) .0)
 
-element-copy-out-decide-2 : tie.Need-element-copy-out-decide-2 Inv-loop μ-loop
-element-copy-out-decide-2 c = member (c .before .before .before .before) .0
+shared-slice-read-decide-2 : tie.Need-shared-slice-read-decide-2 Inv-loop μ-loop
+shared-slice-read-decide-2 c = has-rows (c .before .before .before .before .before) .2
 
 decide-requires : tie.Need-decide-requires Inv-loop μ-loop
 decide-requires c κs =
     let taken = c .before .before .before .before .before in
     let k = member taken in
-    (k .0, taken .before .before .before .before .pre (taken .lowest .result) (k .0))
+    (k .0, start (taken .before .before) .pre .1 (taken .lowest .result) (k .0))
 
 with-requires-2 : tie.Need-with-requires-2 Inv-loop μ-loop
 with-requires-2 c κs = search needs
@@ -86,7 +98,7 @@ loop-again : tie.Need-loop-again Inv-loop μ-loop
 loop-again c =
     let taken = c .before .before .before .before in
     let at = taken .before .before .loop in
-    let a = taken .before .before .before .before .args in
+    let a = start (taken .before .before) .args in
     let k = member taken in
     let t : ℕ = taken .lowest .result in
     let inside : (j : ℕ) → bit (at .todo) j ≡ true → bit (a .left) j ≡ true = at .inv .1 in
@@ -128,7 +140,7 @@ loop-again c =
 
 returns : tie.Need-returns Inv-loop μ-loop
 returns c =
-    let a = c .before .before .before .args in
+    let a = start (c .before) .args in
     let at = c .before .loop in
     record {
       waits = λ t h. all-passed 0 (a .left) (at .todo) _ (at .keep) (c .loop-test .left) (at .inv .2) t h ∙ rw (bit-zero t);
@@ -144,13 +156,13 @@ one-round-spec =
     loop-holds
     lowest-requires
     mul-above
-    element-copy-out-above
+    shared-slice-read-above
     meet-requires
     with-requires
     mul-decide
-    element-copy-out-decide
+    shared-slice-read-decide
     mul-decide-2
-    element-copy-out-decide-2
+    shared-slice-read-decide-2
     decide-requires
     with-requires-2
     rest-requires
