@@ -3,13 +3,13 @@ use mathlib.Core.Bool.{Bool, true, false, _&&_, _||_}
 use mathlib.Core.List.{List}
 use mathlib.Core.Logic.{⊎-elim}
 use mathlib.Core.Path.{_≡_, refl, sym, ap, ap₂, _∙_}
-use Prim.Native.Nat.{ℕ, _+_, _*_, _-_, _≤_, _<_}
+use Prim.Native.Nat.{ℕ, zero, suc, _+_, _*_, _-_, _≤_, _<_}
 use native.Mathlib.Nat.{not-suc-le-zero, add-zero}
 use native.Mathlib.Numerals.{add-one}
 use native.Mathlib.Omega.{arith}
 use lib.Bits.{bitOr, or-add-and, and-le-l, and-le-r}
 use lib.Dec.{eqb, ltb}
-use lib.ListN.{length, getD, set}
+use lib.ListN.{length, getD, set, replicate, length-replicate}
 use lib.Seq.{getD-set-same, getD-set-other}
 use borrow.Author.Count.{below-more}
 use borrow.Author.Tests.{eq-eqb, ne-eqb, lt-ltb, ltb-true, ltb-false}
@@ -19,6 +19,7 @@ use Rattle.meaning.proofs.Below.{last}
 use Rattle.meaning.proofs.Bool.{either}
 use Rattle.meaning.proofs.Bytes.{cut-read}
 use Rattle.sets.proofs.Bits.{bit-zero}
+use Rattle.table.proofs.Passed.{all-zero}
 use Rattle.image.specs.Held.{Lists}
 use Rattle.image.specs.Records.{Blank, Quiet, Marked}
 
@@ -47,16 +48,16 @@ quiet-none bs from i l h = absurd (omega arith)
 
 pub quiet-more : (bs : List ℕ) (from i any : ℕ) → (any ≡ 0 → Quiet bs from i) → bitOr any (getD bs i 0) ≡ 0 → Quiet bs from (i + 1)
 quiet-more bs from i any q e j l h =
-    let zero = both-zero any (getD bs i 0) e in
-    ⊎-elim (λ (s : j ≡ i). ap (λ (k : ℕ). getD bs k 0) s ∙ zero .1) (q (zero .0) j l) (last (rw add-one at h))
+    let none = both-zero any (getD bs i 0) e in
+    ⊎-elim (λ (s : j ≡ i). ap (λ (k : ℕ). getD bs k 0) s ∙ none .1) (q (none .0) j l) (last (rw add-one at h))
 
 -- A record whose bytes are 0 is 0.
 pub quiet-is : (bs : List ℕ) (from to k : ℕ) → Quiet bs from to → from ≤ 4 * k → 4 * k + 4 ≤ to → k < 192 → Blank (image bs) k
-quiet-is bs from to k zero l h m =
+quiet-is bs from to k none l h m =
     record {
-      number = omega (arith, number-at bs k m, zero (4 * k) (omega arith) (omega arith), zero (4 * k + 1) (omega arith) (omega arith));
-      third = omega (arith, third-at bs k m, zero (4 * k + 2) (omega arith) (omega arith));
-      fourth = omega (arith, fourth-at bs k m, zero (4 * k + 3) (omega arith) (omega arith));
+      number = omega (arith, number-at bs k m, none (4 * k) (omega arith) (omega arith), none (4 * k + 1) (omega arith) (omega arith));
+      third = omega (arith, third-at bs k m, none (4 * k + 2) (omega arith) (omega arith));
+      fourth = omega (arith, fourth-at bs k m, none (4 * k + 3) (omega arith) (omega arith));
     }
 
 -- Records that are 0 have no reset order.
@@ -66,7 +67,25 @@ unfolding state
 quiet-orders bs t from to low e f q j l h =
     ap (λ (x : ℕ). eqb x 1) (quiet-is bs from to (128 + j) q (omega arith) (omega arith) (omega arith) .third)
 
--- The numbers read so far: none, and one more.
+-- The four bytes of a record that is 0.
+pub blank-bytes : (bs : List ℕ) (k j : ℕ) → k < 192 → Blank (image bs) k → j < 4 → getD bs (4 * k + j) 0 ≡ 0
+blank-bytes bs k zero h blank l =
+    let sum : getD bs (4 * k) 0 + 256 * getD bs (4 * k + 1) 0 ≡ 0 = sym (number-at bs k h) ∙ blank .number in
+    ap (λ (i : ℕ). getD bs i 0) (add-zero (4 * k)) ∙ omega (arith, sum)
+blank-bytes bs k (suc zero) h blank l =
+    let sum : getD bs (4 * k) 0 + 256 * getD bs (4 * k + 1) 0 ≡ 0 = sym (number-at bs k h) ∙ blank .number in
+    omega (arith, sum)
+blank-bytes bs k (suc (suc zero)) h blank l = sym (third-at bs k h) ∙ blank .third
+blank-bytes bs k (suc (suc (suc zero))) h blank l = sym (fourth-at bs k h) ∙ blank .fourth
+blank-bytes bs k (suc (suc (suc (suc j)))) h blank l = absurd (omega arith)
+
+-- An array that is lent empty.
+pub empty-row : (m : ℕ) (xs : List ℕ) → xs ≡ replicate m 0 → (length xs ≡ m) × ((i : ℕ) → getD xs i 0 ≡ 0)
+empty-row m xs e =
+    let long : length xs ≡ m = ap (λ (l : List ℕ). length l) e ∙ length-replicate {A = ℕ} m 0 in
+    (long, all-zero xs (e ∙ ap (λ (n : ℕ). replicate {A = ℕ} n 0) (sym long)))
+
+-- The numbers read so far: none, one more, and all the others where these are 0.
 pub lists-none : (f : ℕ → ℕ) (xs : List ℕ) → Lists 0 f xs
 lists-none f xs = record { same = λ i h. absurd (not-suc-le-zero h); small = λ i h. absurd (not-suc-le-zero h) }
 
@@ -78,6 +97,23 @@ lists-more i f xs x l h e s =
       same = below-more _ i (λ j a. other j a ∙ l .same j a) (here ∙ e);
       small = below-more _ i (λ j a. rw (other j a) (l .small j a)) (rw here s);
     }
+
+pub lists-rest : (n m : ℕ) (f : ℕ → ℕ) (xs : List ℕ) → Lists n f xs → ((i : ℕ) → n ≤ i → getD xs i 0 ≡ 0) → ((i : ℕ) → n ≤ i → i < m → f i ≡ 0)
+    → Lists m f xs
+lists-rest n m f xs l none past =
+    record {
+      same = λ i h.
+          ⊎-elim (λ (e : ltb i n ≡ true). l .same i (ltb-true i n e))
+          (λ (e : ltb i n ≡ false). none i (ltb-false i n e) ∙ sym (past i (ltb-false i n e) h))
+          (either (ltb i n));
+      small = λ i h.
+          ⊎-elim (λ (e : ltb i n ≡ true). l .small i (ltb-true i n e)) (λ (e : ltb i n ≡ false). omega (arith, none i (ltb-false i n e)))
+          (either (ltb i n));
+    }
+
+-- What is not written yet is still empty.
+pub still-none : (n : ℕ) (xs : List ℕ) (x : ℕ) → ((i : ℕ) → n ≤ i → getD xs i 0 ≡ 0) → (i : ℕ) → n + 1 ≤ i → getD (set xs n x) i 0 ≡ 0
+still-none n xs x none i h = getD-set-other xs n i x 0 (λ e. omega (arith, e, h)) ∙ none i (omega (arith, h))
 
 -- A set made so far: of none, with the next numbers passed over, and with one more.
 pub marked-none : (f : ℕ → Bool) → Marked 0 f 0

@@ -1,6 +1,7 @@
 -- Writing an image: four stores are one record, the records stored so far are those of the state, and 192 of them are the image.
 use mathlib.Core.Bool.{Bool, true, false, cond, not, _&&_, and-true}
 use mathlib.Core.List.{List, [], _∷_, _++_}
+use mathlib.Core.Logic.{⊎-elim}
 use mathlib.Core.Path.{_≡_, refl, sym, ap, _∙_, subst, fun-ext}
 use Prim.Native.Nat.{ℕ, zero, suc, _+_, _-_, _*_, _/_, _%_, _≤_, _<_}
 use native.Mathlib.Nat.{not-suc-le-zero, add-zero}
@@ -11,10 +12,13 @@ use lib.Dec.{eqb, ltb}
 use borrow.Author.Count.{below-more}
 use borrow.Author.Tests.{eq-eqb, eqb-true, eqb-false, ltb-true, ltb-false}
 use Rattle.meaning.specs.Bytes.{bit, bytes}
-use Rattle.meaning.specs.Image.{State, image-bytes}
+use Rattle.meaning.specs.Image.{State, image, image-bytes}
+use Rattle.meaning.proofs.Bool.{either}
 use Rattle.meaning.proofs.Image.{image-length, place-byte, transition-byte}
 use Rattle.sets.proofs.Bits.{bit-zero}
+use Rattle.image.specs.Records.{Blank}
 use Rattle.image.specs.Stored.{Stored}
+use Rattle.image.proofs.Read.{blank-bytes}
 
 -- The bytes with the four of record k stored.
 abbrev pub stored : List ℕ → ℕ → ℕ → ℕ → ℕ → ℕ → List ℕ
@@ -76,43 +80,95 @@ four-plain : (x : ℕ) → x ≤ 65535 → bytes 4 x ≡ bytes 2 x ++ 0 ∷ 0 �
 unfolding bytes
 four-plain x h = let third : x / 256 / 256 ≡ 0 = omega arith in rw third
 
--- The first k records are those of the image wanted.
-pub record Upto (want : List ℕ) (k : ℕ) (bs : List ℕ) : Type 0 where
+-- The first k records are those of the image wanted, and the others as they were of old.
+pub record Upto (want old : List ℕ) (k : ℕ) (bs : List ℕ) : Type 0 where
   pub long : length bs ≡ 768
   pub right : (n : ℕ) → n < k → (j : ℕ) → j < 4 → getD bs (4 * n + j) 0 ≡ getD want (4 * n + j) 0
+  pub rest : (n : ℕ) → k ≤ n → (j : ℕ) → j < 4 → getD bs (4 * n + j) 0 ≡ getD old (4 * n + j) 0
 
-pub upto-none : (want bs : List ℕ) → length bs ≡ 768 → Upto want 0 bs
-upto-none want bs l = record { long = l; right = λ n h. absurd (not-suc-le-zero h) }
+pub upto-none : (want bs : List ℕ) → length bs ≡ 768 → Upto want bs 0 bs
+upto-none want bs l = record { long = l; right = λ n h. absurd (not-suc-le-zero h); rest = λ n h j i. refl }
 
 -- One more record.
-upto-more : (want bs next : List ℕ) (k x : ℕ) → Upto want k bs → Stored bs k x next
-    → ((j : ℕ) → j < 4 → getD want (4 * k + j) 0 ≡ getD (bytes 4 x) j 0) → Upto want (k + 1) next
-upto-more want bs next k x u s is =
+upto-more : (want old bs next : List ℕ) (k x : ℕ) → Upto want old k bs → Stored bs k x next
+    → ((j : ℕ) → j < 4 → getD want (4 * k + j) 0 ≡ getD (bytes 4 x) j 0) → Upto want old (k + 1) next
+upto-more want old bs next k x u s is =
     record {
       long = s .long;
       right = below-more _ k (λ n l j h. s .others n j (λ e. omega arith) h ∙ u .right n l j h) (λ j h. s .here j h ∙ sym (is j h));
+      rest = λ n l j h. s .others n j (λ e. omega arith) h ∙ u .rest n (omega arith) j h;
     }
 
-module _ (s : State) where
+-- Records that were right of old.
+upto-past : (want old bs : List ℕ) (k n : ℕ) → Upto want old k bs → k ≤ n
+    → ((i : ℕ) → k ≤ i → i < n → (j : ℕ) → j < 4 → getD old (4 * i + j) 0 ≡ getD want (4 * i + j) 0) → Upto want old n bs
+upto-past want old bs k n u l same =
+    record {
+      long = u .long;
+      right = λ i h j d.
+          ⊎-elim (λ (e : ltb i k ≡ true). u .right i (ltb-true i k e) j d)
+          (λ (e : ltb i k ≡ false). u .rest i (ltb-false i k e) j d ∙ same i (ltb-false i k e) h j d)
+          (either (ltb i k));
+      rest = λ i h j d. u .rest i (omega (arith, l, h)) j d;
+    }
+
+-- Counted from here on.
+pub upto-here : (want old bs : List ℕ) (k : ℕ) → Upto want old k bs → Upto want bs k bs
+upto-here want old bs k u = record { long = u .long; right = u .right; rest = λ n h j d. refl }
+
+-- The record of nothing is four bytes of 0.
+no-byte : (j : ℕ) → j < 4 → getD (bytes 2 0 ++ 0 ∷ 0 ∷ []) j 0 ≡ 0
+unfolding bytes
+no-byte zero h = refl
+no-byte (suc zero) h = refl
+no-byte (suc (suc zero)) h = refl
+no-byte (suc (suc (suc zero))) h = refl
+no-byte (suc (suc (suc (suc j)))) h = absurd (omega arith)
+
+module _ (s : State) (old : List ℕ) where
+  -- Places at which there is nothing, and was nothing of old; and transitions.
+  pub idle-places : (bs : List ℕ) (n : ℕ) → n ≤ 128 → ((p : ℕ) → n ≤ p → p < 128 → Blank (image old) p) → ((p : ℕ) → n ≤ p → p < 128 → s .tokens p ≡ 0)
+      → Upto (image-bytes s) old n bs → Upto (image-bytes s) old 128 bs
+  idle-places bs n low blank none u =
+      upto-past (image-bytes s) old bs n 128 u low
+      (λ p l h j d.
+      blank-bytes old p j (omega arith) (blank p l h) d
+      ∙ sym (place-byte s p j h d ∙ ap (λ (x : ℕ). getD (bytes 2 x ++ 0 ∷ 0 ∷ []) j 0) (none p l h) ∙ no-byte j d))
+
+  pub idle-transitions : (bs : List ℕ) (n : ℕ) → n ≤ 64 → ((t : ℕ) → n ≤ t → t < 64 → (j : ℕ) → j < 4 → getD old (4 * (128 + t) + j) 0 ≡ 0)
+      → ((t : ℕ) → n ≤ t → t < 64 → s .counter t ≡ 0) → ((k : ℕ) → s .order k ≡ false)
+      → Upto (image-bytes s) old (128 + n) bs → Upto (image-bytes s) old 192 bs
+  idle-transitions bs n low blank none unordered u =
+      upto-past (image-bytes s) old bs (128 + n) 192 u (omega arith)
+      (λ i l h j d.
+      let split : i ≡ 128 + (i - 128) = omega (arith, l) in
+      let past : n ≤ i - 128 = omega (arith, l) in
+      let small : i - 128 < 64 = omega (arith, h, l) in
+      subst (λ (k : ℕ). getD old (4 * k + j) 0 ≡ getD (image-bytes s) (4 * k + j) 0) (sym split)
+      (blank (i - 128) past small j d
+      ∙ sym
+      (transition-byte s (i - 128) j small d
+      ∙ rw (unordered (i - 128)) (ap (λ (x : ℕ). getD (bytes 2 x ++ 0 ∷ 0 ∷ []) j 0) (none (i - 128) past small) ∙ no-byte j d))))
+
   -- A place's record, and a transition's.
-  pub upto-place : (bs next : List ℕ) (p : ℕ) → p < 128 → s .tokens p ≤ 65535 → Upto (image-bytes s) p bs → Stored bs p (s .tokens p) next
-      → Upto (image-bytes s) (p + 1) next
+  pub upto-place : (bs next : List ℕ) (p : ℕ) → p < 128 → s .tokens p ≤ 65535 → Upto (image-bytes s) old p bs → Stored bs p (s .tokens p) next
+      → Upto (image-bytes s) old (p + 1) next
   upto-place bs next p h small u w =
-      upto-more (image-bytes s) bs next p (s .tokens p) u w
+      upto-more (image-bytes s) old bs next p (s .tokens p) u w
       (λ j l. place-byte s p j h l ∙ ap (λ (v : List ℕ). getD v j 0) (sym (four-plain (s .tokens p) small)))
 
   pub upto-transition : (bs next : List ℕ) (t : ℕ) → t < 64 → s .counter t ≤ 65535 → ((k : ℕ) → s .order k ≡ false)
-      → Upto (image-bytes s) (128 + t) bs → Stored bs (128 + t) (s .counter t) next → Upto (image-bytes s) (128 + (t + 1)) next
+      → Upto (image-bytes s) old (128 + t) bs → Stored bs (128 + t) (s .counter t) next → Upto (image-bytes s) old (128 + (t + 1)) next
   upto-transition bs next t h small none u w =
       let on : 128 + t + 1 ≡ 128 + (t + 1) = omega arith in
       rw on at
-      (upto-more (image-bytes s) bs next (128 + t) (s .counter t) u w
+      (upto-more (image-bytes s) old bs next (128 + t) (s .counter t) u w
       (λ j l.
       transition-byte s t j h l
       ∙ rw (none t) (ap (λ (v : List ℕ). getD v j 0) (sym (four-plain (s .counter t) small)))))
 
   -- All 192 records are the image.
-  pub upto-all : (bs : List ℕ) → Upto (image-bytes s) 192 bs → bs ≡ image-bytes s
+  pub upto-all : (bs : List ℕ) → Upto (image-bytes s) old 192 bs → bs ≡ image-bytes s
   upto-all bs u =
       ext-getD 0 bs (image-bytes s) (u .long ∙ sym (image-length s))
       (λ i h.

@@ -22,6 +22,11 @@ pub record Small (h : Held) : Type 0 where
   pub tokens : (p : ℕ) → p < 128 → getD (h .tokens) p 0 ≤ 65535
   pub counters : (t : ℕ) → t < 64 → getD (h .counters) t 0 ≤ 65535
 
+-- The arrays have no token from place n on, and no counter stands from transition n on.
+pub record Idle-past (h : Held) (n : ℕ) : Type 0 where
+  pub tokens : (p : ℕ) → n ≤ p → p < 128 → getD (h .tokens) p 0 ≡ 0
+  pub counters : (t : ℕ) → n ≤ t → t < 64 → getD (h .counters) t 0 ≡ 0
+
 -- An array lists the first n of the numbers f, and each fits two bytes.
 pub record Lists (n : ℕ) (f : ℕ → ℕ) (xs : List ℕ) : Type 0 where
   pub same : (i : ℕ) → i < n → getD xs i 0 ≡ f i

@@ -2,11 +2,11 @@
 ghost use mathlib.Core.Bool.{true};
 ghost use mathlib.Core.Path.{_≡_};
 ghost use Prim.Native.Nat.{ℕ, _+_, _*_, _≤_, _<_};
-ghost use lib.ListN.{length, getD, set};
+ghost use lib.ListN.{length, getD, set, replicate};
 ghost use Rattle.meaning.specs.Bytes.{bit};
 ghost use Rattle.meaning.specs.Image.{image, state, image-bytes};
-ghost use Rattle.image.specs.Records.{Quiet, Marked};
-ghost use Rattle.image.specs.Held.{Holds, held, Small, Lists};
+ghost use Rattle.image.specs.Records.{Quiet, Marked, Blank-past};
+ghost use Rattle.image.specs.Held.{Holds, held, Small, Idle-past, Lists};
 ghost use Rattle.image.specs.Stored.{Stored};
 
 pub mod fitting; // fitting.rt: whether an image fits a table (answer 10)
@@ -86,27 +86,27 @@ fn number(bytes: &[u8], k: usize) -> u32
     pair(cell(bytes, k, 0), cell(bytes, k, 1))
 }
 
-// Fills an array with the tokens of each place.
-fn read_tokens(bytes: &[u8], xs: &mut [u32; 128])
-    requires { ⌜ length (now xs) ≡ 128 ⌝ }
+// Fills an array, which is lent empty, with the tokens of each place. From place n on there is none.
+fn read_tokens(bytes: &[u8], xs: &mut [u32; 128], n: usize)
+    requires { ⌜ (now xs ≡ replicate 128 0) × (n ≤ 128) × ((p : ℕ) → n ≤ p → p < 128 → image (now bytes) .number p ≡ 0) ⌝ }
     ensures { λ _. ⌜ Lists 128 (state (image (now (bytes .entry))) .tokens) (now (xs .exit)) ⌝ }
     ensures { λ _. ⌜ length (now (xs .exit)) ≡ 128 ⌝ }
 {
     let mut p = 0;
-    while p < 128 {
+    while p < n {
         xs[p] = number(bytes, p);
         p += 1;
     }
 }
 
-// Fills an array with the counter of each transition.
-fn read_counters(bytes: &[u8], xs: &mut [u32; 64])
-    requires { ⌜ length (now xs) ≡ 64 ⌝ }
+// Fills an array, which is lent empty, with the counter of each transition. From transition n on it is 0.
+fn read_counters(bytes: &[u8], xs: &mut [u32; 64], n: usize)
+    requires { ⌜ (now xs ≡ replicate 64 0) × (n ≤ 64) × ((t : ℕ) → n ≤ t → t < 64 → image (now bytes) .number (128 + t) ≡ 0) ⌝ }
     ensures { λ _. ⌜ Lists 64 (state (image (now (bytes .entry))) .counter) (now (xs .exit)) ⌝ }
     ensures { λ _. ⌜ length (now (xs .exit)) ≡ 64 ⌝ }
 {
     let mut t = 0;
-    while t < 64 {
+    while t < n {
         xs[t] = number(bytes, 128 + t);
         t += 1;
     }
@@ -141,30 +141,34 @@ fn orders_on(bytes: &[u8], t: usize, set: u64) -> u64
     all
 }
 
-// The set of the transitions with a reset order.
-fn orders(bytes: &[u8]) -> u64
+// The set of the transitions with a reset order. From transition n on none has one.
+fn orders(bytes: &[u8], n: usize) -> u64
+    requires { ⌜ (n ≤ 64) × ((t : ℕ) → n ≤ t → t < 64 → image (now bytes) .third (128 + t) ≡ 0) ⌝ }
     ensures { λ r. ⌜ ((t : ℕ) → t < 64 → bit r t ≡ state (image (now (bytes .entry))) .order t) ⌝ }
 {
+    let sixteens = (n + 15) / 16;
     let mut set = 0u64;
     let mut b = 0;
-    while b < 4 {
+    while b < sixteens {
         set = orders_on(bytes, 16 * b, set);
         b += 1;
     }
     set
 }
 
-// Fills two arrays with the tokens and the counters of the state that an image holds, and answers the set of the transitions with a reset order;
-// bytes past the end read as 0.
-pub fn load(bytes: &[u8], tokens: &mut [u32; 128], counters: &mut [u32; 64]) -> u64
-    requires { ⌜ (length (now tokens) ≡ 128) × (length (now counters) ≡ 64) ⌝ }
+// Fills two arrays, which are lent empty, with the tokens and the counters of the state that an image holds, and answers the set of the transitions with a
+// reset order; bytes past the end read as 0. From place n and from transition n on the image is 0.
+pub fn load(bytes: &[u8], tokens: &mut [u32; 128], counters: &mut [u32; 64], n: usize) -> u64
+    requires { ⌜ (now tokens ≡ replicate 128 0) × (now counters ≡ replicate 64 0) × (n ≤ 128) ⌝ }
+    requires { ⌜ Blank-past (image (now bytes)) n ⌝ }
     ensures { λ r. ⌜ Holds (record { tokens = now (tokens .exit); counters = now (counters .exit); orders = r }) (state (image (now (bytes .entry)))) ⌝ }
     ensures { λ r. ⌜ Small (record { tokens = now (tokens .exit); counters = now (counters .exit); orders = r }) ⌝ }
     ensures { λ _. ⌜ (length (now (tokens .exit)) ≡ 128) × (length (now (counters .exit)) ≡ 64) ⌝ }
 {
-    read_tokens(bytes, tokens);
-    read_counters(bytes, counters);
-    orders(bytes)
+    let most = table::transitions(n);
+    read_tokens(bytes, tokens, n);
+    read_counters(bytes, counters, most);
+    orders(bytes, most)
 }
 
 // The four bytes of x, the lowest first, become record k.
@@ -189,31 +193,36 @@ fn order(bytes: &mut [u8], t: usize)
     bytes[at] = 1;
 }
 
-// The image of a state without reset orders: all four bytes of each record.
-fn plain(bytes: &mut [u8], tokens: &[u32; 128], counters: &[u32; 64])
-    requires { ⌜ length (now bytes) ≡ 768 ⌝ }
+// The image of a state without reset orders: all four bytes of each record. From place n and from transition n on image and state have nothing, and
+// nothing is written.
+fn plain(bytes: &mut [u8], tokens: &[u32; 128], counters: &[u32; 64], n: usize)
+    requires { ⌜ (length (now bytes) ≡ 768) × (n ≤ 128) ⌝ }
     requires { ⌜ Small (record { tokens = now tokens; counters = now counters; orders = 0 }) ⌝ }
+    requires { ⌜ Blank-past (image (now bytes)) n × Idle-past (record { tokens = now tokens; counters = now counters; orders = 0 }) n ⌝ }
     ensures { λ _. ⌜ now (bytes .exit) ≡ image-bytes (held (record { tokens = now (tokens .entry); counters = now (counters .entry); orders = 0 })) ⌝ }
 {
     let mut p = 0;
-    while p < 128 {
+    while p < n {
         store(bytes, p, tokens[p]);
         p += 1;
     }
+    let most = table::transitions(n);
     let mut t = 0;
-    while t < 64 {
+    while t < most {
         store(bytes, 128 + t, counters[t]);
         t += 1;
     }
 }
 
-// The image of a state. The reset orders are put in at the end, one by one, as there are few.
-pub fn save(bytes: &mut [u8], tokens: &[u32; 128], counters: &[u32; 64], orders: u64)
-    requires { ⌜ length (now bytes) ≡ 768 ⌝ }
+// The image of a state. The reset orders are put in at the end, one by one, as there are few. From place n and from transition n on the image that is lent
+// is 0, and the state has neither tokens nor counters there.
+pub fn save(bytes: &mut [u8], tokens: &[u32; 128], counters: &[u32; 64], orders: u64, n: usize)
+    requires { ⌜ (length (now bytes) ≡ 768) × (n ≤ 128) ⌝ }
     requires { ⌜ Small (record { tokens = now tokens; counters = now counters; orders = orders }) ⌝ }
+    requires { ⌜ Blank-past (image (now bytes)) n × Idle-past (record { tokens = now tokens; counters = now counters; orders = orders }) n ⌝ }
     ensures { λ _. ⌜ now (bytes .exit) ≡ image-bytes (held (record { tokens = now (tokens .entry); counters = now (counters .entry); orders = orders })) ⌝ }
 {
-    plain(bytes, tokens, counters);
+    plain(bytes, tokens, counters, n);
     let mut left = orders;
     while left != 0 {
         order(bytes, sets::lowest(left));

@@ -18,12 +18,12 @@ use Rattle.image.proofs.save.Statement.{statement}
 use Rattle.image.proofs.save.Tie as tie
 
 abbrev Inv-loop : tie.InvT-loop
-Inv-loop bytes₀ tokens counters orders left₀ bytes left =
+Inv-loop bytes₀ tokens counters orders n left₀ bytes left =
     (left < 2 ^ 64) × ((t : ℕ) → bit left t ≡ true → bit orders t ≡ true)
     × (bytes ≡ image-bytes (but (held (record { tokens = tokens; counters = counters; orders = orders })) left))
 
 abbrev μ-loop : tie.MeasureT-loop
-μ-loop bytes₀ tokens counters orders left₀ bytes left = left
+μ-loop bytes₀ tokens counters orders n left₀ bytes left = left
 
 -- The way back from the loop to the start, and from a member to the loop.
 abbrev begun : tie.At-loop Inv-loop μ-loop → tie.Start Inv-loop μ-loop
@@ -35,7 +35,13 @@ turn c = c .before .before
 plain-requires : tie.Need-plain-requires Inv-loop μ-loop
 plain-requires c κs =
     let pre = c .before .before .pre in
-    (pre .0, record { tokens = pre .1 .tokens; counters = pre .1 .counters })
+    (
+      pre .0,
+      (
+        record { tokens = pre .1 .0 .tokens; counters = pre .1 .0 .counters },
+        (pre .1 .1 .0, record { tokens = pre .1 .1 .1 .tokens; counters = pre .1 .1 .1 .counters }),
+      ),
+    )
 
 loop-holds : tie.Need-loop-holds Inv-loop μ-loop
 loop-holds c =
@@ -85,7 +91,7 @@ loop-again c =
     )
 
 same-length : tie.Need-same-length Inv-loop μ-loop
-same-length c = ap length (c .before .loop .inv .2) ∙ image-length _ ∙ sym (begun (c .before) .pre .0)
+same-length c = ap length (c .before .loop .inv .2) ∙ image-length _ ∙ sym (begun (c .before) .pre .0 .0)
 
 returns : tie.Need-returns Inv-loop μ-loop
 returns c =
