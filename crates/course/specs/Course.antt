@@ -17,7 +17,7 @@ use Rattle.net.specs.Rows.{Gathered}
 use Rattle.net.specs.Links.{Chained}
 use Rattle.timing.specs.declared.Intervals.{Intervals}
 use Rattle.timing.specs.Times.{Times-of}
-use Rattle.table.specs.Index.{Indexed, Reaches}
+use Rattle.table.specs.Index.{Indexed, Reaches, transitions-below}
 use Rattle.image.specs.Held.{Small, held}
 use Rattle.course.specs.declared.Halted.{Halted}
 use Rattle.course.specs.declared.Ended.{Ended}
@@ -43,6 +43,7 @@ pub record Read (bs : List ℕ) (x : Intervals) (index higher takers truths head
   pub index-long : length index ≡ 8 * length takers
   pub truths-long : length truths ≡ length takers
   pub links : table bs .records ≤ length next
+  pub higher-long : transitions-below n ≤ length higher
 
 -- The image fits the table, the words are not too many, and the report has room for every one.
 pub record Ready (bs img ws report : List ℕ) : Type 0 where

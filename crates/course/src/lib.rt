@@ -5,10 +5,12 @@ ghost use lib.Dec.{eqb};
 ghost use Prim.Native.Nat.{ℕ, _+_, _*_, _≤_, _<_};
 ghost use lib.ListN.{length, getD, replicate};
 ghost use Rattle.meaning.specs.Table.{table, total, arc};
-ghost use Rattle.meaning.specs.Image.{image-bytes};
-ghost use Rattle.image.specs.Held.{Small, held};
+ghost use Rattle.meaning.specs.Image.{image as spelled, image-bytes};
+ghost use Rattle.image.specs.Held.{Small, Idle-past, held};
+ghost use Rattle.image.specs.Records.{Blank-past};
+ghost use Rattle.table.specs.Index.{transitions-below};
 ghost use Rattle.enabled.specs.Held.{Empty-from};
-ghost use Rattle.cycle.specs.Step.{Net-of, Sized};
+ghost use Rattle.cycle.specs.Step.{Net-of};
 ghost use Rattle.course.specs.Course.{Read, Ready, Housing, Halts, Ends};
 
 // How the words came to their end: the reset orders then, number and where, and the finished cycles.
@@ -33,14 +35,15 @@ fn joined(x: u32, y: u32) -> u32
     x | y
 }
 
-// A number that no place has more tokens than: all their bits together.
-fn largest(m: &[u32; 128]) -> u32
+// A number that no place has more tokens than: all their bits together. From place n on there is none.
+fn largest(m: &[u32; 128], n: usize) -> u32
     requires { ⌜ ((p : ℕ) → p < 128 → getD (now m) p 0 ≤ 65535) ⌝ }
+    requires { ⌜ (n ≤ 128) × ((p : ℕ) → n ≤ p → p < 128 → getD (now m) p 0 ≡ 0) ⌝ }
     ensures { λ r. ⌜ (r ≤ 65535) × ((p : ℕ) → p < 128 → getD (now (m .entry)) p 0 ≤ r) ⌝ }
 {
     let mut r: u32 = 0;
     let mut p = 0;
-    while p < 128 {
+    while p < n {
         r = joined(r, m[p]);
         p += 1;
     }
@@ -48,23 +51,24 @@ fn largest(m: &[u32; 128]) -> u32
 }
 
 // A number that no place comes above in the next cycle, in which no more than `gain` is put anywhere: by the number that none is above now, and
-// where that leaves room for too many, by looking.
-fn ceiling(top: u32, gain: u32, m: &[u32; 128]) -> u32
+// where that leaves room for too many, by looking. From place n on there is no token.
+fn ceiling(top: u32, gain: u32, m: &[u32; 128], n: usize) -> u32
     requires { ⌜ (gain ≤ 67107840) × (top ≤ 65535 + gain) ⌝ }
     requires { ⌜ ((p : ℕ) → p < 128 → getD (now m) p 0 ≤ top) ⌝ }
     requires { ⌜ ((p : ℕ) → p < 128 → getD (now m) p 0 ≤ 65535) ⌝ }
+    requires { ⌜ (n ≤ 128) × ((p : ℕ) → n ≤ p → p < 128 → getD (now m) p 0 ≡ 0) ⌝ }
     ensures { λ r. ⌜ (r ≤ 65535 + gain) × ((p : ℕ) → p < 128 → getD (now (m .entry)) p 0 + gain ≤ r) ⌝ }
 {
     let most = top + gain;
     if most <= 65535 {
         return most;
     }
-    largest(m) + gain
+    largest(m, n) + gain
 }
 
 // One cycle a word over the rows of the table, from the state that the image holds, until one is refused or the words are done. Each finished cycle
 // writes its record; the tokens and counters are those after the last. From place n on there is neither an input arc nor an action, and all post
-// arcs together weigh `gain`.
+// arcs together weigh `gain`. What is kept of each place is lent empty, as are the tokens and the counters; past the eights nothing ever stands.
 fn cycles(
     t: &[u8],
     image: &[u8],
@@ -72,6 +76,9 @@ fn cycles(
     report: &mut [u8],
     tokens: &mut [u32; 128],
     counters: &mut [u32; 64],
+    held: &mut [u64],
+    lacks: &mut [u64],
+    shown: &mut [u64],
     known: u64,
     timed: u64,
     conditional: u64,
@@ -85,30 +92,29 @@ fn cycles(
     limit: &[u32; 64],
     last: &[u32; 64],
     index: &[u64],
-    rivals: &[u64; 64],
+    rivals: &[u64],
     w: &[[u16; 64]],
     s: &[[u8; 64]],
     takers: &[u64],
-    low: &[u64; 64],
-    high: &[u64; 64],
+    low: &[u64],
+    high: &[u64],
     curbs: &[u64; 128],
     heads: &[u16; 256],
-    next: &[u16],
+    next: &[u32],
     truths: &[u64],
 ) -> Halted
     requires { ⌜ Net-of (now t) known timed conditional lower eights (record { sorts = now sorts; a = now a; b = now b }) (now limit) (now last) (now index) (now rivals) (now w) (now s) (now takers) (now low) (now high) (now curbs) (now heads) (now next) (now truths) ⌝ }
     requires { ⌜ Empty-from (now index) n × (n ≤ 8 * eights) ⌝ }
     requires { ⌜ gain ≡ total (table (now t)) (arc (table (now t)) 3) (table (now t) .four) ⌝ }
     requires { ⌜ gain ≤ 67107840 ⌝ }
-    requires { ⌜ Sized (now tokens) (now counters) ⌝ }
+    requires { ⌜ (now tokens ≡ replicate 128 0) × (now counters ≡ replicate 64 0) ⌝ }
+    requires { ⌜ (now held ≡ replicate (length (now w)) 0) × (now lacks ≡ replicate (length (now w)) 0) × (now shown ≡ replicate (length (now w)) 0) ⌝ }
     requires { ⌜ Ready (now t) (now image) (now words) (now report) ⌝ }
+    ensures { λ e. ⌜ Idle-past (record { tokens = now (tokens .exit); counters = now (counters .exit); orders = e .orders }) (8 * eights) ⌝ }
     ensures { λ e. ⌜ Halts (now (t .entry)) (now (image .entry)) (now (words .entry)) (now (report .entry)) e (now (tokens .exit)) (now (counters .exit)) (now (report .exit)) ⌝ }
 {
     let count = words.len() / 8;
-    let mut orders = image::load(image, tokens, counters);
-    let mut held = [0u64; 128];
-    let mut lacks = [0u64; 128];
-    let mut shown = [0u64; 128];
+    let mut orders = image::load(image, tokens, counters, 8 * eights);
     let mut from = [0u32; 128];
     let mut upto = [2147483647u32; 128];
     enabled::hold(
@@ -118,9 +124,9 @@ fn cycles(
         w,
         s,
         n,
-        &mut held,
-        &mut lacks,
-        &mut shown,
+        held,
+        lacks,
+        shown,
         &mut from,
         &mut upto,
     );
@@ -133,15 +139,15 @@ fn cycles(
     let mut i = 0;
     while i < count {
         let word = words::word(words, i);
-        top = ceiling(top, gain, tokens);
+        top = ceiling(top, gain, tokens, 8 * eights);
         let r = cycle::step(
             t,
             tokens,
             counters,
             &mut before,
-            &mut held,
-            &mut lacks,
-            &mut shown,
+            held,
+            lacks,
+            shown,
             &mut from,
             &mut upto,
             &mut taken,
@@ -194,21 +200,31 @@ fn cycles(
     }
 }
 
-// The image after so many finished cycles: as lent where there is none, else that of the state.
-fn keep(image: &mut [u8], tokens: &[u32; 128], counters: &[u32; 64], orders: u64, done: usize)
-    requires { ⌜ length (now image) ≡ 768 ⌝ }
+// The image after so many finished cycles: as lent where there is none, else that of the state. From place n and from transition n on the image that is lent
+// is 0, and the state has neither tokens nor counters there.
+fn keep(
+    image: &mut [u8],
+    tokens: &[u32; 128],
+    counters: &[u32; 64],
+    orders: u64,
+    done: usize,
+    n: usize,
+)
+    requires { ⌜ (length (now image) ≡ 768) × (n ≤ 128) ⌝ }
     requires { ⌜ Small (record { tokens = now tokens; counters = now counters; orders = orders }) ⌝ }
+    requires { ⌜ Blank-past (spelled (now image)) n × Idle-past (record { tokens = now tokens; counters = now counters; orders = orders }) n ⌝ }
     ensures { λ _. ⌜ now (image .exit) ≡ cond (eqb done 0) (now (image .entry)) (image-bytes (held (record { tokens = now (tokens .entry); counters = now (counters .entry); orders = orders }))) ⌝ }
 {
     if done == 0 {
         return;
     }
-    image::save(image, tokens, counters, orders);
+    image::save(image, tokens, counters, orders, n);
 }
 
 // The cycles of a call whose checks are passed: what the rows leave out is made of them, then one cycle a word, then the image is written. No number of a
-// place or a transition is at the reach or past it; `higher` has those above each transition. The arrays for the input arcs are lent empty, with
-// a row for every place below the reach.
+// place or a transition is at the reach or past it; `higher` has those above each transition, and of them its rivals are left. The arrays for the input arcs
+// and the rows that are kept of each place are lent empty, with a row for every place below the reach; so are the places of each transition's arcs, with a
+// row for every transition.
 pub fn course(
     t: &[u8],
     image: &mut [u8],
@@ -218,29 +234,33 @@ pub fn course(
     a: &[u16; 64],
     b: &[u16; 64],
     index: &[u64],
-    higher: &[u64; 64],
+    higher: &mut [u64],
     w: &mut [[u16; 64]],
     s: &mut [[u8; 64]],
+    low: &mut [u64],
+    high: &mut [u64],
+    held: &mut [u64],
+    lacks: &mut [u64],
+    shown: &mut [u64],
     takers: &[u64],
     truths: &[u64],
     heads: &[u16; 256],
-    next: &[u16],
+    next: &[u32],
     reach: usize,
 ) -> Ended
     requires { ⌜ Read (now t) (record { sorts = now sorts; a = now a; b = now b }) (now index) (now higher) (now takers) (now truths) (now heads) (now next) reach ⌝ }
     requires { ⌜ now w ≡ replicate (length (now w)) (replicate 64 0) ⌝ }
     requires { ⌜ now s ≡ replicate (length (now w)) (replicate 64 0) ⌝ }
     requires { ⌜ Housing reach (length (now w)) ⌝ }
+    requires { ⌜ (now low ≡ replicate (length (now low)) 0) × (now high ≡ replicate (length (now high)) 0) × (transitions-below reach ≤ length (now low)) × (transitions-below reach ≤ length (now high)) ⌝ }
+    requires { ⌜ (now held ≡ replicate (length (now w)) 0) × (now lacks ≡ replicate (length (now w)) 0) × (now shown ≡ replicate (length (now w)) 0) ⌝ }
     requires { ⌜ Ready (now t) (now image) (now words) (now report) ⌝ }
     ensures { λ e. ⌜ Ends (now (t .entry)) (now (image .entry)) (now (words .entry)) (now (report .entry)) e (now (image .exit)) (now (report .exit)) ⌝ }
 {
     let mut curbs = [0u64; 128];
-    let mut low = [0u64; 64];
-    let mut high = [0u64; 64];
-    let gain = net::laying::lay_arcs(t, w, s, &mut curbs, &mut low, &mut high);
+    let gain = net::laying::lay_arcs(t, w, s, &mut curbs, low, high);
     let fewer = table::transitions(reach);
-    let mut rivals = [0u64; 64];
-    let lower = fire::rivals(higher, takers, &low, &high, &mut rivals, fewer);
+    let lower = fire::rivals(takers, low, high, higher, fewer);
     let n = enabled::bound(index, reach);
     let eights = enabled::eights(reach);
     let known = enabled::known(index, reach);
@@ -258,6 +278,9 @@ pub fn course(
         report,
         &mut tokens,
         &mut counters,
+        held,
+        lacks,
+        shown,
         known,
         timed,
         conditional,
@@ -271,19 +294,19 @@ pub fn course(
         &limit,
         &last,
         index,
-        &rivals,
+        higher,
         w,
         s,
         takers,
-        &low,
-        &high,
+        low,
+        high,
         &curbs,
         heads,
         next,
         truths,
     );
     let done = e.cycles;
-    keep(image, &tokens, &counters, e.orders, done);
+    keep(image, &tokens, &counters, e.orders, done, 8 * eights);
     Ended {
         number: e.number,
         at: e.at,

@@ -13,7 +13,7 @@ use Rattle.meaning.specs.Defined.{check}
 use Rattle.meaning.specs.Calls.{word-checks}
 use Rattle.records.specs.declared.Rec.{Rec}
 use Rattle.table.specs.declared.Pass.{Pass}
-use Rattle.table.specs.Index.{extent-of, Indexed, Reaches, Roomy}
+use Rattle.table.specs.Index.{extent-of, Indexed, Reaches, Roomy, transitions-below}
 use Rattle.timing.specs.declared.Intervals.{Intervals}
 use Rattle.image.specs.Fit.{wrong-by}
 use Rattle.engine.specs.declared.Answer.{Answer}
@@ -34,6 +34,10 @@ pub record Fitting (bs : List ℕ) (reach rows numbers wants links : ℕ) : Type
   pub eighths : ℕ
   pub whole : numbers ≡ 8 * eighths
   pub any : 0 < numbers
+
+-- Each transition below the reach has its row among so many of those below it, of those above it, and of those in conflict with it.
+abbrev pub Ranked : ℕ → ℕ → ℕ → ℕ → Type 0
+Ranked reach below above conflicts = (transitions-below reach ≤ below) × (transitions-below reach ≤ above) × (transitions-below reach ≤ conflicts)
 
 -- What the stages of a table come to: its answer; and, where it is accepted, the pass came to its end, the index holds all its records and goes no further
 -- than the reach, no record's byte 1 is at the reach or past it and no transition that byte 2 names, the reach goes no further than it must, and the rows have those above each transition.

@@ -1,14 +1,12 @@
 // The engine's calls over lent bytes: check, start, run, lookup. Each call has its answer table in docs/ENGINE.md.
-ghost use mathlib.Core.Bool.{true, false};
+ghost use mathlib.Core.Bool.{false};
 ghost use mathlib.Core.Path.{_≡_};
-ghost use Prim.Native.Nat.{_≤_};
 ghost use lib.ListN.{length, replicate};
-ghost use Rattle.meaning.specs.Table.{table};
 ghost use Rattle.meaning.specs.Defined.{bad-length};
-ghost use Rattle.table.specs.Index.{extent-of};
 ghost use Rattle.meaning.specs.Promise.{Checked, Started, Ran, Looked-up};
-ghost use Rattle.engine.specs.Said.{said, Fitting};
+ghost use Rattle.engine.specs.Said.{said, Fitting, Ranked};
 
+mod sizes; // sizes.rt: rows as far as a table goes
 mod tables; // tables.rt: answers 2 to 9 of a table
 mod writing; // writing.rt: the image of a fresh net
 mod playing; // playing.rt: answers 10 to 12, and the cycles
@@ -20,18 +18,7 @@ pub struct Answer {
     pub cycles: usize,
 }
 
-// Are so many numbers and so many records enough for a table of this reach?
-fn holds(t: &[u8], reach: usize, numbers: usize, records: usize) -> bool
-    ensures { λ r. ⌜ (r ≡ true → (reach ≤ numbers) × (table (now (t .entry)) .records ≤ records)) ⌝ }
-{
-    if reach <= numbers {
-        t.len() / 8 <= records
-    } else {
-        false
-    }
-}
-
-// check: answers 1 to 9 in the page's order, or accepted. A small table is read into small rows, since most of a short call is clearing them.
+// check: answers 1 to 9 in the page's order, or accepted.
 pub fn check(t: &[u8]) -> Answer
     ensures { λ a. ⌜ Checked (now (t .entry)) (said a) ⌝ }
 {
@@ -49,65 +36,26 @@ pub fn check(t: &[u8]) -> Answer
             cycles: 0,
         };
     }
-    let reach = table::extent(t);
-    if holds(t, reach, 32, 256) {
-        return check_small(t, reach);
-    }
-    if holds(t, reach, 64, 512) {
-        return check_middle(t, reach);
-    }
-    check_large(t, reach)
+    sizes::check(t)
 }
 
-// The same for a table whose length is right, with rows for 32 numbers and links for 256 records; for 64 and 512; and for all that there can be.
-fn check_small(t: &[u8], reach: usize) -> Answer
-    requires { ⌜ bad-length (now t) ≡ false ⌝ }
-    requires { ⌜ (reach ≡ extent-of (table (now t))) × (reach ≤ 32) × (table (now t) .records ≤ 256) ⌝ }
-    ensures { λ a. ⌜ Checked (now (t .entry)) (said a) ⌝ }
-{
-    let mut index = [0u64; 256];
-    let mut takers = [0u64; 32];
-    let mut truths = [0u64; 32];
-    let mut next = [0u16; 256];
-    check_in(t, reach, &mut index, &mut takers, &mut truths, &mut next)
-}
-
-fn check_middle(t: &[u8], reach: usize) -> Answer
-    requires { ⌜ bad-length (now t) ≡ false ⌝ }
-    requires { ⌜ (reach ≡ extent-of (table (now t))) × (reach ≤ 64) × (table (now t) .records ≤ 512) ⌝ }
-    ensures { λ a. ⌜ Checked (now (t .entry)) (said a) ⌝ }
-{
-    let mut index = [0u64; 512];
-    let mut takers = [0u64; 64];
-    let mut truths = [0u64; 64];
-    let mut next = [0u16; 512];
-    check_in(t, reach, &mut index, &mut takers, &mut truths, &mut next)
-}
-
-fn check_large(t: &[u8], reach: usize) -> Answer
-    requires { ⌜ bad-length (now t) ≡ false ⌝ }
-    requires { ⌜ reach ≡ extent-of (table (now t)) ⌝ }
-    ensures { λ a. ⌜ Checked (now (t .entry)) (said a) ⌝ }
-{
-    let mut index = [0u64; 1024];
-    let mut takers = [0u64; 128];
-    let mut truths = [0u64; 128];
-    let mut next = [0u16; 1024];
-    check_in(t, reach, &mut index, &mut takers, &mut truths, &mut next)
-}
-
-// The same with these rows, which are lent empty and have room for the table.
+// Answers 2 to 9 of a table whose length is right, with these rows, which are lent empty and have room for the table.
 fn check_in(
     t: &[u8],
     reach: usize,
     index: &mut [u64],
     takers: &mut [u64],
     truths: &mut [u64],
-    next: &mut [u16],
+    below: &mut [u64],
+    above: &mut [u64],
+    conflicts: &mut [u64],
+    next: &mut [u32],
 ) -> Answer
     requires { ⌜ bad-length (now t) ≡ false ⌝ }
     requires { ⌜ Fitting (now t) reach (length (now index)) (length (now takers)) (length (now truths)) (length (now next)) ⌝ }
+    requires { ⌜ Ranked reach (length (now below)) (length (now above)) (length (now conflicts)) ⌝ }
     requires { ⌜ (now index ≡ replicate (length (now index)) 0) × (now takers ≡ replicate (length (now takers)) 0) × (now truths ≡ replicate (length (now truths)) 0) × (now next ≡ replicate (length (now next)) 0) ⌝ }
+    requires { ⌜ (now below ≡ replicate (length (now below)) 0) × (now above ≡ replicate (length (now above)) 0) × (now conflicts ≡ replicate (length (now conflicts)) 0) ⌝ }
     ensures { λ a. ⌜ Checked (now (t .entry)) (said a) ⌝ }
 {
     let mut sorts = [0u8; 64];
@@ -125,15 +73,14 @@ fn check_in(
         &mut heads,
         next,
     );
-    let mut below = [0u64; 64];
-    let mut above = [0u64; 64];
     let j = tables::judge(
         t,
         pass,
         reach,
         index,
-        &mut below,
-        &mut above,
+        below,
+        above,
+        conflicts,
         takers,
         truths,
         &heads,
@@ -166,7 +113,7 @@ pub fn start(t: &[u8], image: &mut [u8]) -> Answer
 }
 
 // run: answers 1 to 9, then 10, 11 and 12, then one cycle a word, and 13 at a cycle. A refusal before any cycle writes nothing; 13 keeps the
-// finished cycles and nothing of the refused one. A small table is read into small rows.
+// finished cycles and nothing of the refused one.
 pub fn run(t: &[u8], image: &mut [u8], words: &[u8], report: &mut [u8]) -> Answer
     ensures { λ a. ⌜ Ran (now (t .entry)) (now (image .entry)) (now (words .entry)) (now (report .entry)) (said a) (now (image .exit)) (now (report .exit)) ⌝ }
 {
@@ -184,84 +131,10 @@ pub fn run(t: &[u8], image: &mut [u8], words: &[u8], report: &mut [u8]) -> Answe
             cycles: 0,
         };
     }
-    let reach = table::extent(t);
-    if holds(t, reach, 32, 256) {
-        return run_small(t, image, words, report, reach);
-    }
-    if holds(t, reach, 64, 512) {
-        return run_middle(t, image, words, report, reach);
-    }
-    run_large(t, image, words, report, reach)
+    sizes::run(t, image, words, report)
 }
 
-// The same for a table whose length is right, with rows for 32 numbers and links for 256 records; for 64 and 512; and for all that there can be.
-fn run_small(t: &[u8], image: &mut [u8], words: &[u8], report: &mut [u8], reach: usize) -> Answer
-    requires { ⌜ bad-length (now t) ≡ false ⌝ }
-    requires { ⌜ (reach ≡ extent-of (table (now t))) × (reach ≤ 32) × (table (now t) .records ≤ 256) ⌝ }
-    ensures { λ a. ⌜ Ran (now (t .entry)) (now (image .entry)) (now (words .entry)) (now (report .entry)) (said a) (now (image .exit)) (now (report .exit)) ⌝ }
-{
-    let mut index = [0u64; 256];
-    let mut takers = [0u64; 32];
-    let mut truths = [0u64; 32];
-    let mut next = [0u16; 256];
-    run_in(
-        t,
-        image,
-        words,
-        report,
-        reach,
-        &mut index,
-        &mut takers,
-        &mut truths,
-        &mut next,
-    )
-}
-
-fn run_middle(t: &[u8], image: &mut [u8], words: &[u8], report: &mut [u8], reach: usize) -> Answer
-    requires { ⌜ bad-length (now t) ≡ false ⌝ }
-    requires { ⌜ (reach ≡ extent-of (table (now t))) × (reach ≤ 64) × (table (now t) .records ≤ 512) ⌝ }
-    ensures { λ a. ⌜ Ran (now (t .entry)) (now (image .entry)) (now (words .entry)) (now (report .entry)) (said a) (now (image .exit)) (now (report .exit)) ⌝ }
-{
-    let mut index = [0u64; 512];
-    let mut takers = [0u64; 64];
-    let mut truths = [0u64; 64];
-    let mut next = [0u16; 512];
-    run_in(
-        t,
-        image,
-        words,
-        report,
-        reach,
-        &mut index,
-        &mut takers,
-        &mut truths,
-        &mut next,
-    )
-}
-
-fn run_large(t: &[u8], image: &mut [u8], words: &[u8], report: &mut [u8], reach: usize) -> Answer
-    requires { ⌜ bad-length (now t) ≡ false ⌝ }
-    requires { ⌜ reach ≡ extent-of (table (now t)) ⌝ }
-    ensures { λ a. ⌜ Ran (now (t .entry)) (now (image .entry)) (now (words .entry)) (now (report .entry)) (said a) (now (image .exit)) (now (report .exit)) ⌝ }
-{
-    let mut index = [0u64; 1024];
-    let mut takers = [0u64; 128];
-    let mut truths = [0u64; 128];
-    let mut next = [0u16; 1024];
-    run_in(
-        t,
-        image,
-        words,
-        report,
-        reach,
-        &mut index,
-        &mut takers,
-        &mut truths,
-        &mut next,
-    )
-}
-
-// The same with these rows, which are lent empty and have room for the table.
+// What run does with a table whose length is right, with these rows, which are lent empty and have room for the table.
 fn run_in(
     t: &[u8],
     image: &mut [u8],
@@ -271,11 +144,16 @@ fn run_in(
     index: &mut [u64],
     takers: &mut [u64],
     truths: &mut [u64],
-    next: &mut [u16],
+    below: &mut [u64],
+    above: &mut [u64],
+    conflicts: &mut [u64],
+    next: &mut [u32],
 ) -> Answer
     requires { ⌜ bad-length (now t) ≡ false ⌝ }
     requires { ⌜ Fitting (now t) reach (length (now index)) (length (now takers)) (length (now truths)) (length (now next)) ⌝ }
+    requires { ⌜ Ranked reach (length (now below)) (length (now above)) (length (now conflicts)) ⌝ }
     requires { ⌜ (now index ≡ replicate (length (now index)) 0) × (now takers ≡ replicate (length (now takers)) 0) × (now truths ≡ replicate (length (now truths)) 0) × (now next ≡ replicate (length (now next)) 0) ⌝ }
+    requires { ⌜ (now below ≡ replicate (length (now below)) 0) × (now above ≡ replicate (length (now above)) 0) × (now conflicts ≡ replicate (length (now conflicts)) 0) ⌝ }
     ensures { λ a. ⌜ Ran (now (t .entry)) (now (image .entry)) (now (words .entry)) (now (report .entry)) (said a) (now (image .exit)) (now (report .exit)) ⌝ }
 {
     let mut sorts = [0u8; 64];
@@ -293,15 +171,14 @@ fn run_in(
         &mut heads,
         next,
     );
-    let mut below = [0u64; 64];
-    let mut above = [0u64; 64];
     let judged = tables::judge(
         t,
         pass,
         reach,
         index,
-        &mut below,
-        &mut above,
+        below,
+        above,
+        conflicts,
         takers,
         truths,
         &heads,
@@ -331,7 +208,7 @@ fn run_in(
         &a,
         &b,
         index,
-        &above,
+        above,
         takers,
         truths,
         &heads,

@@ -51,8 +51,8 @@ pub fn judge_lent(
     Finding { number: 0, at: 0 }
 }
 
-// The cycles of a call whose checks are passed. With no words nothing is done; else the input arcs get their arrays, with 16, 32 or 64 rows
-// where no place is at that number or past it.
+// The cycles of a call whose checks are passed. With no words nothing is done; else the input arcs get their arrays and each place the rows that are kept of
+// it, 8, 16, 32 or 64 of them where no number is at that or past it. `above` has those above each transition.
 pub fn play(
     t: &[u8],
     image: &mut [u8],
@@ -62,11 +62,11 @@ pub fn play(
     a: &[u16; 64],
     b: &[u16; 64],
     index: &[u64],
-    above: &[u64; 64],
+    above: &mut [u64],
     takers: &[u64],
     truths: &[u64],
     heads: &[u16; 256],
-    next: &[u16],
+    next: &[u32],
     reach: usize,
 ) -> Ended
     requires { ⌜ Read (now t) (record { sorts = now sorts; a = now a; b = now b }) (now index) (now above) (now takers) (now truths) (now heads) (now next) reach ⌝ }
@@ -80,9 +80,14 @@ pub fn play(
             cycles: 0,
         };
     }
-    if reach <= 16 {
-        let mut w = [[0u16; 64]; 16];
-        let mut s = [[0u8; 64]; 16];
+    if reach <= 8 {
+        let mut w = [[0u16; 64]; 8];
+        let mut s = [[0u8; 64]; 8];
+        let mut low = [0u64; 8];
+        let mut high = [0u64; 8];
+        let mut held = [0u64; 8];
+        let mut lacks = [0u64; 8];
+        let mut shown = [0u64; 8];
         return course::course(
             t,
             image,
@@ -95,6 +100,43 @@ pub fn play(
             above,
             &mut w,
             &mut s,
+            &mut low,
+            &mut high,
+            &mut held,
+            &mut lacks,
+            &mut shown,
+            takers,
+            truths,
+            heads,
+            next,
+            reach,
+        );
+    }
+    if reach <= 16 {
+        let mut w = [[0u16; 64]; 16];
+        let mut s = [[0u8; 64]; 16];
+        let mut low = [0u64; 16];
+        let mut high = [0u64; 16];
+        let mut held = [0u64; 16];
+        let mut lacks = [0u64; 16];
+        let mut shown = [0u64; 16];
+        return course::course(
+            t,
+            image,
+            words,
+            report,
+            sorts,
+            a,
+            b,
+            index,
+            above,
+            &mut w,
+            &mut s,
+            &mut low,
+            &mut high,
+            &mut held,
+            &mut lacks,
+            &mut shown,
             takers,
             truths,
             heads,
@@ -105,6 +147,11 @@ pub fn play(
     if reach <= 32 {
         let mut w = [[0u16; 64]; 32];
         let mut s = [[0u8; 64]; 32];
+        let mut low = [0u64; 32];
+        let mut high = [0u64; 32];
+        let mut held = [0u64; 32];
+        let mut lacks = [0u64; 32];
+        let mut shown = [0u64; 32];
         return course::course(
             t,
             image,
@@ -117,6 +164,11 @@ pub fn play(
             above,
             &mut w,
             &mut s,
+            &mut low,
+            &mut high,
+            &mut held,
+            &mut lacks,
+            &mut shown,
             takers,
             truths,
             heads,
@@ -127,6 +179,11 @@ pub fn play(
     if reach <= 64 {
         let mut w = [[0u16; 64]; 64];
         let mut s = [[0u8; 64]; 64];
+        let mut low = [0u64; 64];
+        let mut high = [0u64; 64];
+        let mut held = [0u64; 64];
+        let mut lacks = [0u64; 64];
+        let mut shown = [0u64; 64];
         return course::course(
             t,
             image,
@@ -139,6 +196,11 @@ pub fn play(
             above,
             &mut w,
             &mut s,
+            &mut low,
+            &mut high,
+            &mut held,
+            &mut lacks,
+            &mut shown,
             takers,
             truths,
             heads,
@@ -148,6 +210,11 @@ pub fn play(
     }
     let mut w = [[0u16; 64]; 128];
     let mut s = [[0u8; 64]; 128];
+    let mut low = [0u64; 64];
+    let mut high = [0u64; 64];
+    let mut held = [0u64; 128];
+    let mut lacks = [0u64; 128];
+    let mut shown = [0u64; 128];
     course::course(
         t,
         image,
@@ -160,6 +227,11 @@ pub fn play(
         above,
         &mut w,
         &mut s,
+        &mut low,
+        &mut high,
+        &mut held,
+        &mut lacks,
+        &mut shown,
         takers,
         truths,
         heads,

@@ -8,7 +8,7 @@ ghost use Rattle.meaning.specs.Defined.{bad-length};
 ghost use Rattle.table.specs.Index.{Scanned};
 ghost use Rattle.net.specs.Grow.{names, Grown};
 ghost use Rattle.net.specs.Pass.{Arcs};
-ghost use Rattle.engine.specs.Said.{Fitting, Judges};
+ghost use Rattle.engine.specs.Said.{Fitting, Ranked, Judges};
 
 // What is found of a table: an answer, without its cycles.
 pub struct Judged {
@@ -17,26 +17,27 @@ pub struct Judged {
 }
 
 // Answers 2 to 9 of a table whose length is right and over whose records the pass has gone, one stage after the other. No number of a
-// record is at the reach or past it. The rows of the closed priority
-// are lent empty and filled on the way, in both directions.
+// record is at the reach or past it. The rows of the closed priority, in both directions, and of those in conflict are lent empty and filled on the way.
 pub fn judge(
     t: &[u8],
     pass: Pass,
     reach: usize,
     index: &[u64],
-    below: &mut [u64; 64],
-    above: &mut [u64; 64],
+    below: &mut [u64],
+    above: &mut [u64],
+    conflicts: &mut [u64],
     takers: &[u64],
     truths: &[u64],
     heads: &[u16; 256],
-    next: &[u16],
+    next: &[u32],
 ) -> Judged
     requires { ⌜ bad-length (now t) ≡ false ⌝ }
     requires { ⌜ Scanned (table (now t)) pass (now index) ⌝ }
     requires { ⌜ Arcs (table (now t)) (pass .at) (now takers) (now heads) (now next) ⌝ }
     requires { ⌜ Grown 128 (pass .at) (names (table (now t)) 4 0) (now truths) ⌝ }
-    requires { ⌜ (now below ≡ replicate 64 0) × (now above ≡ replicate 64 0) ⌝ }
+    requires { ⌜ (now below ≡ replicate (length (now below)) 0) × (now above ≡ replicate (length (now above)) 0) × (now conflicts ≡ replicate (length (now conflicts)) 0) ⌝ }
     requires { ⌜ Fitting (now t) reach (length (now index)) (length (now takers)) (length (now truths)) (length (now next)) ⌝ }
+    requires { ⌜ Ranked reach (length (now below)) (length (now above)) (length (now conflicts)) ⌝ }
     ensures { λ j. ⌜ Judges (now (t .entry)) pass j reach (now (index .entry)) (now (above .exit)) ⌝ }
 {
     let n = t.len() / 8;
@@ -78,19 +79,8 @@ pub fn judge(
             at: circle,
         };
     }
-    let mut conflicts = [0u64; 64];
-    net::conflicts(takers, &mut conflicts, reach);
-    let pair = pairs::clash(
-        &mut conflicts,
-        below,
-        above,
-        index,
-        truths,
-        t,
-        heads,
-        next,
-        most,
-    );
+    net::conflicts(takers, conflicts, reach);
+    let pair = pairs::clash(conflicts, below, above, index, truths, t, heads, next, most);
     if pair < 4096 {
         return Judged {
             number: 9,

@@ -53,8 +53,7 @@ loop-less c = omega arith
 
 loop-again : tie.Need-loop-again Inv-loop μ-loop
 loop-again c =
-    let at = c .before .before .before .loop in
-    (
+    let at = c .before .before .before .loop in (
       omega arith,
       omega arith,
       one-more (at .inv .2) (c .one-round .ensures) (at .inv .1) (omega arith),

@@ -34,8 +34,7 @@ turn c = c .before .before
 
 plain-requires : tie.Need-plain-requires Inv-loop μ-loop
 plain-requires c κs =
-    let pre = c .before .before .pre in
-    (
+    let pre = c .before .before .pre in (
       pre .0,
       (
         record { tokens = pre .1 .0 .tokens; counters = pre .1 .0 .counters },
