@@ -16,7 +16,7 @@ use Rattle.meaning.specs.Table.{Table, table, is}
 use Rattle.meaning.proofs.Bool.{and-left, and-right, and-true, not-both, same-test}
 use Rattle.meaning.proofs.Reflect.{not-true-false}
 use Rattle.sets.proofs.Bits.{bit-zero}
-use Rattle.table.proofs.Passed.{all-zero}
+use Rattle.sets.proofs.Rows.{all-zero}
 use Rattle.net.specs.Rows.{latest, cell, input}
 use Rattle.net.specs.Grow.{Grown, Grown-all, Kept, declares, Told}
 

@@ -6,7 +6,7 @@ use Prim.Native.Nat.{ℕ, _+_, _-_, _≤_, _<_}
 use native.Mathlib.Numerals.{add-one}
 use native.Mathlib.Omega.{arith}
 use lib.Dec.{eqb, ltb}
-use lib.ListN.{getD, set, replicate, length-set}
+use lib.ListN.{length, getD, set, replicate}
 use borrow.Author.Tests.{eqb-true, eq-eqb, ne-eqb, lt-ltb}
 use Rattle.meaning.specs.Below.{some}
 use Rattle.meaning.specs.Bytes.{bit}
@@ -14,7 +14,7 @@ use Rattle.meaning.specs.Table.{Table}
 use Rattle.meaning.proofs.Bool.{and-left, and-right, and-true, same-test}
 use Rattle.net.specs.Grow.{Grown}
 use Rattle.net.specs.Chains.{between, Reached}
-use Rattle.net.proofs.Step.{grown-none, grown-more}
+use Rattle.net.proofs.Step.{grown-blank, grown-more}
 
 -- Record r puts none of 64 numbers into any row.
 grown-idle : (f : ℕ → ℕ → ℕ → Bool) (r : ℕ) (rows : List ℕ) → Grown 64 r f rows → ((t p : ℕ) → p < 64 → f t p r ≡ false) → Grown 64 (r + 1) f rows
@@ -23,19 +23,16 @@ grown-idle f r rows g none =
     record { holds = λ t p h l. g .holds t p h l ∙ rw (add-one r, none t p l) (sym (or-false (some r (f t p)))) }
 
 module _ (tb : Table) (of : ℕ → Bool) where
-  -- Before the first record no place is reached.
-  pub reached-none : Reached tb of 0 (replicate 64 0) (replicate 64 0)
-  reached-none =
-      let low = grown-none 64 (between tb of) in
-      let high = grown-none 64 (λ t p. between tb of t (64 + p)) in
-      record { sizes = (low .0, high .0); low-is = low .1; high-is = high .1 }
+  -- Before the first record no place is reached, however many rows there are.
+  pub reached-none : (low high : List ℕ) → low ≡ replicate (length low) 0 → high ≡ replicate (length high) 0 → Reached tb of 0 low high
+  reached-none low high e f =
+      record { low-is = grown-blank 64 (between tb of) low e; high-is = grown-blank 64 (λ t p. between tb of t (64 + p)) high f }
 
   module _ (r : ℕ) (low high : List ℕ) (g : Reached tb of r low high) where
     -- Record r does not pass.
     pub reached-same : of r ≡ false → Reached tb of (r + 1) low high
     reached-same e =
         record {
-          sizes = g .sizes;
           low-is = grown-idle (between tb of) r low (g .low-is) (λ t p h. rw e);
           high-is = grown-idle (λ t p. between tb of t (64 + p)) r high (g .high-is) (λ t p h. rw e);
         }
@@ -57,25 +54,23 @@ module _ (tb : Table) (of : ℕ → Bool) where
       away : (q k : ℕ) → ¬ (p ≡ q) → between tb of k q r ≡ false
       away q k n = rw (ne-eqb (tb .one r) q (λ z. n (sym one ∙ z))) (and-false (of r && eqb (tb .two r) k))
 
-      pub reached-low : p < 64 → (v : ℕ) → ((j : ℕ) → bit v j ≡ (bit (getD low t 0) j || eqb p j)) → Reached tb of (r + 1) (set low t v) high
-      reached-low h v gains =
+      pub reached-low : p < 64 → t < length low → (v : ℕ) → ((j : ℕ) → bit v j ≡ (bit (getD low t 0) j || eqb p j)) → Reached tb of (r + 1) (set low t v) high
+      reached-low h there v gains =
           record {
-            sizes = (length-set low t v ∙ g .sizes .0, g .sizes .1);
             low-is = rw (← two)
                 (grown-more 64 (between tb of) r low (g .low-is) (of r) (tb .two r) (λ j. eqb (tb .one r) j) (λ x y. refl) inside
-                (omega (arith, two, g .sizes .0)) v
+                (omega (arith, two)) v
                 (λ j l. rw (two, one) (gains j)));
             high-is = grown-idle (λ x q. between tb of x (64 + q)) r high (g .high-is) (λ x q l. away (64 + q) x (λ z. omega arith));
           }
 
-      pub reached-high : 64 ≤ p → (v : ℕ) → ((j : ℕ) → bit v j ≡ (bit (getD high t 0) j || eqb (p - 64) j)) → Reached tb of (r + 1) low (set high t v)
-      reached-high h v gains =
+      pub reached-high : 64 ≤ p → t < length high → (v : ℕ) → ((j : ℕ) → bit v j ≡ (bit (getD high t 0) j || eqb (p - 64) j)) → Reached tb of (r + 1) low (set high t v)
+      reached-high h there v gains =
           record {
-            sizes = (g .sizes .0, length-set high t v ∙ g .sizes .1);
             low-is = grown-idle (between tb of) r low (g .low-is) (λ x q l. away q x (λ z. omega arith));
             high-is = rw (← two)
                 (grown-more 64 (λ x q. between tb of x (64 + q)) r high (g .high-is) (of r) (tb .two r) (λ j. eqb (tb .one r) (64 + j)) (λ x y. refl) inside
-                (omega (arith, two, g .sizes .1)) v
+                (omega (arith, two)) v
                 (λ j l. rw (two, one) (gains j ∙ ap (λ (b : Bool). bit (getD high t 0) j || b) (shifted j))));
           }
         where

@@ -1,10 +1,8 @@
 -- The last of the records that pass a test, as a link; and the places that the arcs of each transition reach.
 use mathlib.Core.Bool.{Bool, cond, _&&_}
 use mathlib.Core.List.{List}
-use mathlib.Core.Path.{_≡_}
 use Prim.Native.Nat.{ℕ, zero, suc, _+_}
 use lib.Dec.{eqb, ltb}
-use lib.ListN.{length}
 use Rattle.meaning.specs.Table.{Table, is, arc}
 use Rattle.net.specs.Grow.{Grown}
 
@@ -23,7 +21,6 @@ between tb of t p r = of r && eqb (tb .two r) t && eqb (tb .one r) p
 
 -- The places of those of the first n records that pass, for each transition: places 0 to 63, and places 64 to 127.
 pub record Reached (tb : Table) (of : ℕ → Bool) (n : ℕ) (low high : List ℕ) : Type 0 where
-  pub sizes : (length low ≡ 64) × (length high ≡ 64)
   pub low-is : Grown 64 n (between tb of) low
   pub high-is : Grown 64 n (λ t p. between tb of t (64 + p)) high
 

@@ -4,7 +4,7 @@ use mathlib.Core.List.{List, []}
 use mathlib.Core.Path.{_≡_}
 use Prim.Native.Nat.{ℕ, zero, suc, _≤_, _<_}
 use lib.Dec.{ltb, eqb}
-use lib.ListN.{length, getD}
+use lib.ListN.{getD}
 use Rattle.meaning.specs.Below.{some}
 use Rattle.meaning.specs.Bytes.{bit}
 use Rattle.meaning.specs.Table.{Table, is}
@@ -25,7 +25,6 @@ both-in takers i j p = bit (getD takers p 0) i && bit (getD takers p 0) j
 
 -- Row i has nobody but those with whom i is in some place's row, and of them all others than i.
 pub record Conflicts (takers rows : List ℕ) : Type 0 where
-  pub size : length rows ≡ 64
   pub sound : (i j : ℕ) → i < 64 → bit (getD rows i 0) j ≡ true → some 128 (both-in takers i j) ≡ true
   pub whole : (i j : ℕ) → i < 64 → j < 64 → ¬ (i ≡ j) → some 128 (both-in takers i j) ≡ true → bit (getD rows i 0) j ≡ true
 

@@ -6,7 +6,7 @@ ghost use lib.ListN.{length, replicate};
 ghost use Prim.Native.Nat.{ℕ, _+_, _≤_, _<_};
 ghost use Rattle.meaning.specs.Answer.{accepted};
 ghost use Rattle.meaning.specs.Defined.{check};
-ghost use Rattle.meaning.specs.Table.{Table, table, total, arc};
+ghost use Rattle.meaning.specs.Table.{Table, table, total, arc, is};
 ghost use Rattle.net.specs.Rows.{Gathered, input, Weights, Sorts};
 ghost use Rattle.net.specs.Grow.{names, Grown-all, Kept};
 ghost use Rattle.net.specs.Chains.{between, Reached, Enters};
@@ -21,8 +21,8 @@ fn keep(w: &mut [[u16; 64]], s: &mut [[u8; 64]], p: usize, t: usize, four: u16, 
 }
 
 // An arc between transition t and place p: `low` has the places 0 to 63 of each transition, and `high` the others.
-fn touch(low: &mut [u64; 64], high: &mut [u64; 64], t: usize, p: usize)
-    requires { ⌜ (t < 64) × (p < 128) ⌝ }
+fn touch(low: &mut [u64], high: &mut [u64], t: usize, p: usize)
+    requires { ⌜ (t < 64) × (p < 128) × (t < length (now low)) × (t < length (now high)) ⌝ }
     ensures { λ _. ⌜ ((tb : Table) (of : ℕ → Bool) (r : ℕ) → between tb of t p r ≡ true → Reached tb of r (now (low .entry)) (now (high .entry)) → Reached tb of (r + 1) (now (low .exit)) (now (high .exit))) ⌝ }
 {
     if p < 64 {
@@ -44,18 +44,19 @@ fn curb(curbs: &mut [u64; 128], p: usize, t: usize, sort: u8)
 
 // Lays out the arcs. `w` and `s` get the weights and the sorts of the input arcs, place by transition, and `curbs` for each place who has an inhibitor arc
 // from it. `low` and `high` get the places of each transition's input arcs, as `touch` keeps them. All are lent empty, `w` and `s` with a row for every place of
-// the table. The answer is the weight of all post arcs together.
+// the table, `low` and `high` with one for every transition of an arc. The answer is the weight of all post arcs together.
 pub fn lay_arcs(
     t: &[u8],
     w: &mut [[u16; 64]],
     s: &mut [[u8; 64]],
     curbs: &mut [u64; 128],
-    low: &mut [u64; 64],
-    high: &mut [u64; 64],
+    low: &mut [u64],
+    high: &mut [u64],
 ) -> u32
     requires { ⌜ check (now t) ≡ accepted 0 ⌝ }
     requires { ⌜ (now w ≡ replicate (length (now w)) (replicate 64 0)) × (now s ≡ replicate (length (now w)) (replicate 64 0)) × (now curbs ≡ replicate 128 0) ⌝ }
-    requires { ⌜ (now low ≡ replicate 64 0) × (now high ≡ replicate 64 0) ⌝ }
+    requires { ⌜ (now low ≡ replicate (length (now low)) 0) × (now high ≡ replicate (length (now high)) 0) ⌝ }
+    requires { ⌜ ((r : ℕ) → r < table (now t) .records → is (table (now t)) 3 r ≡ true → (table (now t) .two r < length (now low)) × (table (now t) .two r < length (now high))) ⌝ }
     requires { ⌜ ((r : ℕ) → r < table (now t) .records → table (now t) .one r < length (now w)) ⌝ }
     ensures { λ _. ⌜ Weights (table (now (t .entry))) (now (w .exit)) × Sorts (table (now (t .entry))) (now (s .exit)) ⌝ }
     ensures { λ _. ⌜ Gathered (table (now (t .entry))) 3 2 (now (curbs .exit)) ⌝ }

@@ -21,10 +21,11 @@ ghost use Rattle.net.specs.Opposed.{Hung, Opposed};
 pub mod laying; // laying.rt: the arcs laid out for the cycles
 
 // For each transition the set of those others that take from a place from which it takes: takers[p] is who takes from place p. A place from which one
-// alone takes tells nothing. From place n on nobody takes, and the rows are lent empty.
-pub fn conflicts(takers: &[u64], rows: &mut [u64; 64], n: usize)
+// alone takes tells nothing. From place n on nobody takes; the rows are lent empty, one for each taker.
+pub fn conflicts(takers: &[u64], rows: &mut [u64], n: usize)
     requires { ⌜ Blank-from 128 n (now takers) × (n ≤ length (now takers)) ⌝ }
-    requires { ⌜ now rows ≡ replicate 64 0 ⌝ }
+    requires { ⌜ now rows ≡ replicate (length (now rows)) 0 ⌝ }
+    requires { ⌜ ((p u : ℕ) → p < 128 → bit (getD (now takers) p 0) u ≡ true → u < length (now rows)) ⌝ }
     ensures { λ _. ⌜ Conflicts (now (takers .entry)) (now (rows .exit)) ⌝ }
 {
     let mut p = 0;
@@ -37,11 +38,25 @@ pub fn conflicts(takers: &[u64], rows: &mut [u64; 64], n: usize)
     }
 }
 
-// A link as a number that counts.
+// A link as a number that counts: where a chain begins, and where it goes on. The two are numbers of different width, so that the compiler does not widen
+// a link anew for each arc of a walk.
 fn count(x: u16) -> usize
     ensures { λ r. ⌜ r ≡ x ⌝ }
 {
     x as usize
+}
+
+fn onward(x: u32) -> usize
+    ensures { λ r. ⌜ r ≡ x ⌝ }
+{
+    x as usize
+}
+
+// Where a chain begins, as wide as where one goes on.
+fn widened(x: u16) -> u32
+    ensures { λ r. ⌜ r ≡ x ⌝ }
+{
+    x as u32
 }
 
 // Do x and y have the same place and the same weight?
@@ -56,7 +71,7 @@ fn opposes(x: Rec, y: Rec) -> bool
 }
 
 // Is there an arc in the chain from `first` on with the place and the weight of y?
-fn opposed(t: &[u8], next: &[u16], first: u16, y: Rec) -> bool
+fn opposed(t: &[u8], next: &[u32], first: u16, y: Rec) -> bool
     requires { ⌜ Hung (table (now t)) first (now next) ⌝ }
     requires { ⌜ table (now t) .records ≤ length (now next) ⌝ }
     ensures { λ b. ⌜ Opposed (table (now (t .entry))) first (y .one) (y .four) b ⌝ }
@@ -67,13 +82,13 @@ fn opposed(t: &[u8], next: &[u16], first: u16, y: Rec) -> bool
         if opposes(records::read(t, r), y) {
             return true;
         }
-        link = count(next[r]);
+        link = onward(next[r]);
     }
     false
 }
 
 // Does some place have a basic or test arc to i and an inhibitor arc of equal weight to j? `heads` and `next` chain the arcs.
-pub fn inhibits(t: &[u8], heads: &[u16; 256], next: &[u16], i: usize, j: usize) -> bool
+pub fn inhibits(t: &[u8], heads: &[u16; 256], next: &[u32], i: usize, j: usize) -> bool
     requires { ⌜ Chained (table (now t)) (now heads) (now next) ⌝ }
     requires { ⌜ (i < 64) × (j < 64) × (table (now t) .records ≤ length (now next)) ⌝ }
     ensures { λ b. ⌜ b ≡ inhibited (table (now (t .entry))) i j ⌝ }
@@ -88,7 +103,7 @@ pub fn inhibits(t: &[u8], heads: &[u16; 256], next: &[u16], i: usize, j: usize) 
         if opposed(t, next, heads[64 + i], y) {
             return true;
         }
-        link = count(next[r]);
+        link = onward(next[r]);
     }
     false
 }
@@ -110,11 +125,11 @@ fn enter(rows: &mut [u64], q: usize, y: usize) -> bool
 }
 
 // Hangs record r into chain k: the chain begins with r and goes on with what it began with.
-fn chain(heads: &mut [u16; 256], next: &mut [u16], k: usize, r: usize)
+fn chain(heads: &mut [u16; 256], next: &mut [u32], k: usize, r: usize)
     requires { ⌜ (k < 256) × (r < 1024) × (r < length (now next)) ⌝ }
     ensures { λ _. ⌜ (now (heads .exit) ≡ set (now (heads .entry)) k (r + 1)) × (now (next .exit) ≡ set (now (next .entry)) r (getD (now (heads .entry)) k 0)) ⌝ }
 {
-    next[r] = heads[k];
+    next[r] = widened(heads[k]);
     heads[k] = (r + 1) as u16;
 }
 
@@ -128,7 +143,7 @@ fn keep_arc(
     rows: &mut [u64],
     takers: &mut [u64],
     heads: &mut [u16; 256],
-    next: &mut [u16],
+    next: &mut [u32],
 ) -> u8
     requires { ⌜ (r < 1024) × (x .kind ≡ 3) × (now row ≡ getD kind-rows 2 []) × (now arcs ≡ arc-classes) ⌝ }
     requires { ⌜ (x .one < 128 → x .one < length (now takers)) × (length (now rows) ≡ 8 * length (now takers)) × (r < length (now next)) ⌝ }
@@ -205,7 +220,7 @@ pub fn scan(
     a: &mut [u16; 64],
     b: &mut [u16; 64],
     heads: &mut [u16; 256],
-    next: &mut [u16],
+    next: &mut [u32],
 ) -> Pass
     requires { ⌜ length (now t) ≤ 8192 ⌝ }
     requires { ⌜ now rows ≡ replicate (length (now rows)) 0 ⌝ }

@@ -26,6 +26,9 @@ fn left_of(row: u64, index: &[u64], truths: &[u64], i: usize) -> u64
     requires { ⌜ i < 64 ⌝ }
     ensures { λ r. ⌜ ((j : ℕ) → j < 64 → bit r j ≡ (bit row j && not (crossed-at (now (index .entry)) (now (truths .entry)) i j))) ⌝ }
 {
+    if row == 0 {
+        return 0;
+    }
     let looks = table::line(index, 8 * i + 4);
     let wants = table::line(truths, i);
     let mut left = row;
@@ -53,16 +56,16 @@ fn or_any(already: bool, row: u64) -> bool
 }
 
 // Leaves in the rows of those in conflict the pairs i < j that the rows do not settle, each in the row of its i, and says whether any is left. From
-// n on nobody is in conflict.
+// n on nobody is in conflict, and up to there all have their rows.
 fn narrow(
-    rows: &mut [u64; 64],
-    below: &[u64; 64],
-    above: &[u64; 64],
+    rows: &mut [u64],
+    below: &[u64],
+    above: &[u64],
     index: &[u64],
     truths: &[u64],
     n: usize,
 ) -> bool
-    requires { ⌜ (length (now rows) ≡ 64) × Blank-from 64 n (now rows) ⌝ }
+    requires { ⌜ Blank-from 64 n (now rows) × (n ≤ length (now rows)) × (n ≤ length (now below)) × (n ≤ length (now above)) ⌝ }
     ensures { λ r. ⌜ Narrowed (now (rows .entry)) (now (below .entry)) (now (above .entry)) (now (index .entry)) (now (truths .entry)) (now (rows .exit)) ⌝ }
     ensures { λ r. ⌜ r ≡ any-left (now (rows .exit)) ⌝ }
 {
@@ -86,7 +89,7 @@ fn narrow(
 }
 
 // Does an inhibitor arc of equal weight tell i and j apart?
-fn apart(t: &[u8], heads: &[u16; 256], next: &[u16], i: usize, j: usize) -> bool
+fn apart(t: &[u8], heads: &[u16; 256], next: &[u32], i: usize, j: usize) -> bool
     requires { ⌜ Chained (table (now t)) (now heads) (now next) ⌝ }
     requires { ⌜ (i < 64) × (j < 64) × (table (now t) .records ≤ length (now next)) ⌝ }
     ensures { λ r. ⌜ r ≡ (inhibited (table (now (t .entry))) i j || inhibited (table (now (t .entry))) j i) ⌝ }
@@ -98,8 +101,8 @@ fn apart(t: &[u8], heads: &[u16; 256], next: &[u16], i: usize, j: usize) -> bool
 }
 
 // Row i.
-fn row(rows: &[u64; 64], i: usize) -> u64
-    requires { ⌜ i < 64 ⌝ }
+fn row(rows: &[u64], i: usize) -> u64
+    requires { ⌜ i < length (now rows) ⌝ }
     ensures { λ r. ⌜ r ≡ getD (now (rows .entry)) i 0 ⌝ }
 {
     rows[i]
@@ -107,8 +110,8 @@ fn row(rows: &[u64; 64], i: usize) -> u64
 
 // 64i + j for the least pair that the rows have left and no inhibitor arc tells apart, 4096 if there is none: for each i the lowest j first. From n
 // on the rows are empty.
-fn least(rows: &[u64; 64], t: &[u8], heads: &[u16; 256], next: &[u16], n: usize) -> usize
-    requires { ⌜ Blank-from 64 n (now rows) ⌝ }
+fn least(rows: &[u64], t: &[u8], heads: &[u16; 256], next: &[u32], n: usize) -> usize
+    requires { ⌜ Blank-from 64 n (now rows) × (n ≤ length (now rows)) ⌝ }
     requires { ⌜ Chained (table (now t)) (now heads) (now next) ⌝ }
     requires { ⌜ table (now t) .records ≤ length (now next) ⌝ }
     ensures { λ r. ⌜ r ≡ first 4096 (left-loose (table (now (t .entry))) (now (rows .entry))) ⌝ }
@@ -129,19 +132,19 @@ fn least(rows: &[u64; 64], t: &[u8], heads: &[u16; 256], next: &[u16], n: usize)
 }
 
 // 64i + j for the least pair i < j in conflict without a settlement, 4096 if there is none. The rows of those in conflict are narrowed on the way;
-// from n on nobody is in conflict. The arcs are looked at only where priorities and conditions leave a pair.
+// from n on nobody is in conflict, and up to there all have their rows. The arcs are looked at only where priorities and conditions leave a pair.
 pub fn clash(
-    conflicts: &mut [u64; 64],
-    below: &[u64; 64],
-    above: &[u64; 64],
+    conflicts: &mut [u64],
+    below: &[u64],
+    above: &[u64],
     index: &[u64],
     truths: &[u64],
     t: &[u8],
     heads: &[u16; 256],
-    next: &[u16],
+    next: &[u32],
     n: usize,
 ) -> usize
-    requires { ⌜ (length (now conflicts) ≡ 64) × Blank-from 64 n (now conflicts) ⌝ }
+    requires { ⌜ Blank-from 64 n (now conflicts) × (n ≤ length (now conflicts)) × (n ≤ length (now below)) × (n ≤ length (now above)) ⌝ }
     requires { ⌜ Chained (table (now t)) (now heads) (now next) ⌝ }
     requires { ⌜ table (now t) .records ≤ length (now next) ⌝ }
     ensures { λ r. ⌜ r ≡ first 4096 (loose (table (now (t .entry))) (now (conflicts .entry)) (now (below .entry)) (now (above .entry)) (now (index .entry)) (now (truths .entry))) ⌝ }

@@ -3,31 +3,27 @@ use mathlib.Core.Bool.{Bool, true, false, _&&_, _||_, and-true, and-false, or-fa
 use mathlib.Core.List.{List}
 use mathlib.Core.Path.{_≡_, refl, sym, _∙_}
 use Prim.Native.Nat.{ℕ, _<_}
-use native.Mathlib.Omega.{arith}
 use lib.Dec.{eqb}
-use lib.ListN.{length, getD, set, replicate, getD-replicate, length-replicate}
+use lib.ListN.{length, getD, set, replicate}
 use lib.Seq.{getD-set-same, getD-set-other}
 use borrow.Author.Tests.{eqb-true, eqb-false}
 use Rattle.meaning.specs.Bytes.{bit}
 use Rattle.sets.proofs.Bits.{bit-zero}
+use Rattle.sets.proofs.Rows.{all-zero}
 use Rattle.sets.specs.Given.{Given}
 use Rattle.priority.specs.Closed.{Turned}
 
 -- Rows that have nothing are turned.
-pub no-row : Turned (replicate 64 0) (replicate 64 0)
-no-row =
-    record {
-      size = length-replicate {A = ℕ} 64 0;
-      holds = λ t u h l. rw (getD-replicate {A = ℕ} 64 t 0 0 h, getD-replicate {A = ℕ} 64 u 0 0 l, bit-zero u) (sym (bit-zero t));
-    }
+pub no-row : (rows above : List ℕ) → rows ≡ replicate (length rows) 0 → above ≡ replicate (length above) 0 → Turned rows above
+no-row rows above e f = record { holds = λ t u h l. rw (all-zero above f t, all-zero rows e u, bit-zero u) (sym (bit-zero t)) }
 
 -- One more row is written where nothing stood, and u is given to the sets of its transitions.
-pub one-more : (rows above after : List ℕ) (u row alone : ℕ) → length rows ≡ 64 → u < 64 → getD rows u 0 ≡ 0 → Turned rows above
+pub one-more : (rows above after : List ℕ) (u row alone : ℕ) → u < length rows → getD rows u 0 ≡ 0 → Turned rows above
     → ((j : ℕ) → bit alone j ≡ eqb u j) → Given above row alone after → Turned (set rows u row) after
-one-more rows above after u row alone size h empty before own g =
-    record { size = g .size; holds = λ t q i l. g .holds t q i ∙ rw (before .holds t q i l, own q) (go t q (eqb u q) refl) }
+one-more rows above after u row alone h empty before own g =
+    record { holds = λ t q i l. g .holds t q i ∙ rw (before .holds t q i l, own q) (go t q (eqb u q) refl) }
   where
     go : (t q : ℕ) (y : Bool) → eqb u q ≡ y → (bit (getD rows q 0) t || (bit row t && y)) ≡ bit (getD (set rows u row) q 0) t
-    go t q true e = rw (← eqb-true u q e, empty, bit-zero t, getD-set-same rows u row 0 (omega arith)) (and-true (bit row t))
+    go t q true e = rw (← eqb-true u q e, empty, bit-zero t, getD-set-same rows u row 0 h) (and-true (bit row t))
     go t q false e =
         rw (getD-set-other rows u q row 0 (λ z. eqb-false u q e (sym z)), and-false (bit row t)) (or-false (bit (getD rows q 0) t))

@@ -9,7 +9,7 @@ use native.Mathlib.Nat.{not-suc-le-zero, add-zero}
 use native.Mathlib.Numerals.{add-one}
 use native.Mathlib.Omega.{arith}
 use lib.Dec.{ltb}
-use lib.ListN.{length, getD}
+use lib.ListN.{getD}
 use borrow.Author.Tests.{ltb-true, ltb-false}
 use Rattle.meaning.specs.Bytes.{bit}
 use Rattle.meaning.proofs.Bool.{either, and-left, and-right, and-true, or-true-left, or-true-right, or-cases}
@@ -114,17 +114,17 @@ unfolding via
 rounded index {rows} {next} {k} l f r u t h i = r .over u t h i ∙ rw (f u t h i, f u k h l, f k t l i, add-one k)
 
 -- The rounds over empty rows change nothing.
-idle : {n : ℕ} (index : List ℕ) {rows : List ℕ} → length rows ≡ 64 → Bare n rows → Rounds index n rows → (d : ℕ) → n + d ≤ 64 → Rounds index (n + d) rows
-idle {n} index {rows} size e f zero h = λ u t. rw (add-zero n) (f u t)
-idle {n} index {rows} size e f (suc d) h =
+idle : {n : ℕ} (index : List ℕ) {rows : List ℕ} → Bare n rows → Rounds index n rows → (d : ℕ) → n + d ≤ 64 → Rounds index (n + d) rows
+idle {n} index {rows} e f zero h = λ u t. rw (add-zero n) (f u t)
+idle {n} index {rows} e f (suc d) h =
     let low : n + d < 64 = omega arith in
     let next : n + d + 1 ≡ n + suc d = omega arith in
     subst (λ (k : ℕ). Rounds index k rows) next
-    (rounded index low (idle index size e f d (omega arith)) (emptied rows (n + d) size (e .none (n + d) (omega arith) low)))
+    (rounded index low (idle index e f d (omega arith)) (emptied rows (n + d) (e .none (n + d) (omega arith) low)))
 
 -- Rows that have what the rounds give up to their end are closed.
-pub closing : {n : ℕ} {index rows : List ℕ} → length rows ≡ 64 → Bare n rows → Rounds index n rows → Closed index rows
-closing {n} {index} {rows} size e g =
+pub closing : {n : ℕ} {index rows : List ℕ} → Bare n rows → Rounds index n rows → Closed index rows
+closing {n} {index} {rows} e g =
     let rest : n + (64 - n) ≡ 64 = omega (arith, e .most) in
-    let f : Rounds index 64 rows = subst (λ (k : ℕ). Rounds index k rows) rest (idle index size e g (64 - n) (omega arith)) in
+    let f : Rounds index 64 rows = subst (λ (k : ℕ). Rounds index k rows) rest (idle index e g (64 - n) (omega arith)) in
     record { holds = λ u t h i. (λ e. sound index 64 (omega arith) u t h i (sym (f u t h i) ∙ e), λ w. f u t h i ∙ complete w) }

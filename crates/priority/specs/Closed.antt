@@ -27,11 +27,10 @@ pub record Bare (n : ℕ) (rows : List ℕ) : Type 0 where
 
 -- One round: the rows after it have what they had, and over k all that k's row had.
 pub record Round (rows : List ℕ) (k : ℕ) (next : List ℕ) : Type 0 where
-  pub size : length next ≡ 64
+  pub size : length next ≡ length rows
   pub over : (u t : ℕ) → u < 64 → t < 64
       → bit (getD next u 0) t ≡ (bit (getD rows u 0) t || (bit (getD rows u 0) k && bit (getD rows k 0) t))
 
 -- The rows turned: u is in row t of the one where t is in row u of the other.
 pub record Turned (rows above : List ℕ) : Type 0 where
-  pub size : length above ≡ 64
   pub holds : (t u : ℕ) → t < 64 → u < 64 → bit (getD above t 0) u ≡ bit (getD rows u 0) t

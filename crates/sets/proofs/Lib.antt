@@ -1,4 +1,5 @@
--- The laws of sets in one word.
+-- The laws of sets in one word, and of rows of them.
 pub mod Bits
 pub mod Walk
 pub mod Members
+pub mod Rows

@@ -8,5 +8,5 @@ use Rattle.meaning.specs.Bytes.{bit}
 
 -- What is given: the row of each member of `to` has all of `what` beside what it had.
 pub record Given (rows : List ℕ) (to what : ℕ) (after : List ℕ) : Type 0 where
-  pub size : length after ≡ 64
+  pub size : length after ≡ length rows
   pub holds : (t j : ℕ) → t < 64 → bit (getD after t 0) j ≡ (bit (getD rows t 0) j || (bit to t && bit what j))

@@ -1,6 +1,6 @@
 // Sets of the numbers 0 to 63, one bit each. Each function says which numbers its answer has.
 ghost use mathlib.Core.Path.{_≡_};
-ghost use mathlib.Core.Bool.{_&&_, _||_, not};
+ghost use mathlib.Core.Bool.{true, _&&_, _||_, not};
 ghost use Prim.Native.Nat.{ℕ, _<_};
 ghost use lib.Dec.{eqb, ltb};
 ghost use Rattle.meaning.specs.Below.{some, first};
@@ -65,9 +65,9 @@ pub fn rest(s: u64) -> u64
     if s == 0 { 0 } else { s & (s - 1) }
 }
 
-// Whoever is in `to` gets all of `what` into its row, of 64 rows.
-pub fn give(rows: &mut [u64; 64], to: u64, what: u64)
-    requires { ⌜ length (now rows) ≡ 64 ⌝ }
+// Whoever is in `to` gets all of `what` into its row. There is a row for each of them.
+pub fn give(rows: &mut [u64], to: u64, what: u64)
+    requires { ⌜ ((t : ℕ) → bit to t ≡ true → t < length (now rows)) ⌝ }
     ensures { λ _. ⌜ Given (now (rows .entry)) to what (now (rows .exit)) ⌝ }
 {
     let mut left = to;

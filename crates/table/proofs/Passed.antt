@@ -3,11 +3,11 @@
 use mathlib.Core.Bool.{Bool, true, false, cond, _||_}
 use mathlib.Core.List.{List}
 use mathlib.Core.Path.{_≡_, refl, sym, ap, _∙_}
-use mathlib.Core.Logic.{inl, inr, ⊎-elim}
+use mathlib.Core.Logic.{⊎-elim}
 use Prim.Native.Nat.{ℕ, suc, _+_, _*_, _/_, _≤_, _<_}
 use native.Mathlib.Omega.{arith}
 use lib.Dec.{eqb}
-use lib.ListN.{length, getD, set, replicate, length-set, getD-replicate, List·getD-eq-default}
+use lib.ListN.{length, getD, set, replicate, length-set}
 use borrow.Author.Tests.{lt-ltb, le-ltb, ne-eqb}
 use Rattle.meaning.specs.Bytes.{bit}
 use Rattle.meaning.specs.Table.{Table, table}
@@ -16,7 +16,7 @@ use Rattle.meaning.proofs.Below.{last, first-is, first-none}
 use Rattle.meaning.proofs.Shows.{Shows, shows}
 use Rattle.meaning.proofs.Same.{shown-kind}
 use Rattle.meaning.proofs.Faults.{faultless}
-use Rattle.meaning.proofs.Walk.{compared}
+use Rattle.sets.proofs.Rows.{all-zero}
 use Rattle.records.specs.declared.Rec.{Rec}
 use Rattle.records.specs.Record.{Reads, alone, interval-of, fault-of}
 use Rattle.table.specs.Index.{row, row-of, Roomy, Indexed, Scanned}
@@ -73,15 +73,6 @@ pub record Passed (tb : Table) (n : ℕ) (rows : List ℕ) (r : ℕ) : Type 0 wh
   pub room : (k : ℕ) → k < tb .records → tb .one k < 128 → 8 * tb .one k + 8 ≤ length rows
   pub before : (k : ℕ) → k < r → faulty tb k ≡ false
   pub index : Indexed tb r rows
-
--- An empty list has 0 in each row, and past the last.
-pub all-zero : (xs : List ℕ) → xs ≡ replicate (length xs) 0 → (q : ℕ) → getD xs q 0 ≡ 0
-all-zero xs e q =
-    elim (compared q (length xs)) [
-      | inl h ↦ ap (λ (l : List ℕ). getD l q 0) e ∙ getD-replicate (length xs) q 0 0 h
-      | inr (inl h) ↦ List·getD-eq-default xs 0 (omega arith)
-      | inr (inr h) ↦ List·getD-eq-default xs 0 (omega arith)
-    ]
 
 -- Before the first record. There is room for the rows of n numbers, and a table's numbers are among these.
 pub passed-none : (bs rows : List ℕ) (n : ℕ) → rows ≡ replicate (length rows) 0 → Roomy (table bs) n → length rows ≡ 8 * n

@@ -8,13 +8,14 @@ use Prim.Native.Nat.{ℕ, _+_, _-_, _≤_, _<_}
 use native.Mathlib.Numerals.{add-one}
 use native.Mathlib.Omega.{arith}
 use lib.Dec.{eqb}
-use lib.ListN.{length, getD, length-replicate, getD-replicate}
+use lib.ListN.{length, getD}
 use borrow.Author.Needs.{needs}
 use borrow.Author.Tests.{eqb-true}
 use Rattle.meaning.specs.Below.{some, first}
 use Rattle.meaning.specs.Bytes.{bit}
 use Rattle.meaning.proofs.Bool.{not-both, and-left, and-right, or-true-left, or-true-right, or-cases}
 use Rattle.sets.proofs.Bits.{bit-zero}
+use Rattle.sets.proofs.Rows.{all-zero}
 use Rattle.table.proofs.Firsts.{some-short}
 use Rattle.sets.specs.Given.{Given}
 use Rattle.net.specs.Rows.{Blank-from, both-in}
@@ -35,7 +36,6 @@ one-alone set others none rest i j hi hj = sym (is-first i hi) ∙ is-first j hj
 
 -- What the rows have after p places.
 record Part (takers rows : List ℕ) (p : ℕ) : Type 0 where
-  size : length rows ≡ 64
   sound : (i j : ℕ) → i < 64 → bit (getD rows i 0) j ≡ true → some p (both-in takers i j) ≡ true
   whole : (i j : ℕ) → i < 64 → j < 64 → ¬ (i ≡ j) → some p (both-in takers i j) ≡ true → bit (getD rows i 0) j ≡ true
 
@@ -45,7 +45,6 @@ module _ (takers rows : List ℕ) (p : ℕ) (g : Part takers rows p) where
   unfolding some
   shares after s =
       record {
-        size = s .size;
         sound = λ i j h e.
             rw (add-one p)
             (⊎-elim (λ a. or-true-left _ (g .sound i j h a)) (λ a. or-true-right (some p (both-in takers i j)) a) (or-cases _ _ (sym (s .holds i j h) ∙ e)));
@@ -60,7 +59,6 @@ module _ (takers rows : List ℕ) (p : ℕ) (g : Part takers rows p) where
   unfolding some
   passes-over alone =
       record {
-        size = g .size;
         sound = λ i j h e. rw (add-one p) (or-true-left _ (g .sound i j h e));
         whole = λ i j h l n e.
             ⊎-elim (g .whole i j h l n)
@@ -69,7 +67,8 @@ module _ (takers rows : List ℕ) (p : ℕ) (g : Part takers rows p) where
       }
 
 abbrev Inv-loop : tie.InvT-loop
-Inv-loop takers rows₀ n p₀ rows p = (p ≤ n) × Blank-from 128 n takers × (n ≤ length takers) × Part takers rows p
+Inv-loop takers rows₀ n p₀ rows p =
+    (p ≤ n) × Blank-from 128 n takers × (length rows ≡ length rows₀) × Part takers rows p
 
 abbrev μ-loop : tie.MeasureT-loop
 μ-loop takers rows₀ n p₀ rows p = n - p
@@ -77,16 +76,14 @@ abbrev μ-loop : tie.MeasureT-loop
 loop-holds : tie.Need-loop-holds Inv-loop μ-loop
 unfolding some
 loop-holds c =
-    let pre = c .before .pre in (
+    let pre = c .before .before .pre in (
       omega arith,
       pre .0 .0,
-      pre .0 .1,
-      rw (pre .1)
-          (record {
-            size = length-replicate {A = ℕ} 64 0;
-            sound = λ i j h e. not-both e (ap (λ (x : ℕ). bit x j) (getD-replicate 64 i 0 0 h) ∙ bit-zero j);
-            whole = λ i j h l n e. not-both e refl;
-          }),
+      refl,
+      record {
+        sound = λ i j h e. not-both e (ap (λ (x : ℕ). bit x j) (all-zero _ (pre .1 .0) i) ∙ bit-zero j);
+        whole = λ i j h l n e. not-both e refl;
+      },
     )
 
 mul-set : tie.Need-mul-set Inv-loop μ-loop
@@ -99,7 +96,9 @@ rest-requires : tie.Need-rest-requires Inv-loop μ-loop
 rest-requires c κs = search needs
 
 give-requires : tie.Need-give-requires Inv-loop μ-loop
-give-requires c κs = c .before .before .before .before .before .loop .inv .3 .size
+give-requires c κs u e =
+    let at = c .before .before .before .before .before in
+    omega (arith, at .before .before .before .pre .1 .1 (at .loop .p) u (omega (arith, at .loop .inv .1 .most)) e)
 
 add-p : tie.Need-add-p Inv-loop μ-loop
 add-p c = search needs
@@ -110,19 +109,21 @@ loop-less c = search needs
 loop-again : tie.Need-loop-again Inv-loop μ-loop
 loop-again c =
     let at = c .before .before .before .before .loop in
-    let takers : List ℕ = c .before .before .before .before .before .before .args .takers .now in
-    ⊎-elim (λ w. rw (w .3) (omega arith, at .inv .1, at .inv .2, shares takers (at .rows) (at .p) (at .inv .3) _ (w .2 .ensures)))
+    let takers : List ℕ = c .before .before .before .before .before .before .before .args .takers .now in
+    ⊎-elim (λ w. rw (w .5) (omega arith, at .inv .1, w .2 .ensures .size ∙ at .inv .2, shares takers (at .rows) (at .p) (at .inv .3) _ (w .2 .ensures)))
     (λ w. rw (w .1) (omega arith, at .inv .1, at .inv .2, passes-over takers (at .rows) (at .p) (at .inv .3) (one-alone _ _ (w .0 .left) (c .before .rest .ensures))))
     (c .if1 .came)
+
+same-length : tie.Need-same-length Inv-loop μ-loop
+same-length c = c .before .loop .inv .2
 
 returns : tie.Need-returns Inv-loop μ-loop
 returns c =
     let at = c .before .loop in
-    let takers : List ℕ = c .before .before .before .args .takers .now in
+    let takers : List ℕ = c .before .before .before .before .args .takers .now in
     let all : (i j : ℕ) → i < 64 → some (at .p) (both-in takers i j) ≡ some 128 (both-in takers i j) =
     λ i j h. some-short (at .p) 128 (both-in takers i j) (omega (arith, at .inv .1 .most)) (λ p l m. rw (at .inv .1 .none p i (omega arith) m h)) in
     record {
-      size = at .inv .3 .size;
       sound = λ i j h e. sym (all i j h) ∙ at .inv .3 .sound i j h e;
       whole = λ i j h l n e. at .inv .3 .whole i j h l n (all i j h ∙ e);
     }
@@ -141,4 +142,5 @@ conflicts-spec =
     add-p
     loop-less
     loop-again
+    same-length
     returns)

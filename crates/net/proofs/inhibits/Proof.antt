@@ -121,26 +121,26 @@ returns-2 c =
 inside : (c : tie.After-opposed Inv-loop μ-loop) → c .before .before .before .before .loop .link - 1 < length (begun c .args .next .now)
 inside c = omega (arith, here c .0, begun c .pre .1 .2)
 
-mul-count-2 : tie.Need-mul-count-2 Inv-loop μ-loop
-mul-count-2 c = omega (arith, inside (c .before .before .before .before), begun (c .before .before .before .before) .good .1 .1 .0 .1)
+mul-onward : tie.Need-mul-onward Inv-loop μ-loop
+mul-onward c = omega (arith, inside (c .before .before .before .before), begun (c .before .before .before .before) .good .1 .1 .0 .1)
 
-shared-slice-read-count : tie.Need-shared-slice-read-count Inv-loop μ-loop
-shared-slice-read-count c = inside (c .before .before .before .before .before)
+shared-slice-read-onward : tie.Need-shared-slice-read-onward Inv-loop μ-loop
+shared-slice-read-onward c = inside (c .before .before .before .before .before)
 
-count-requires-2 : tie.Need-count-requires-2 Inv-loop μ-loop
-count-requires-2 c κs = search needs
+onward-requires : tie.Need-onward-requires Inv-loop μ-loop
+onward-requires c κs = search needs
 
 -- The next link is to the arc before.
-next-link : (c : tie.After-count2 Inv-loop μ-loop)
+next-link : (c : tie.After-onward Inv-loop μ-loop)
     → let start = begun (c .before .before .before .before .before .before) in
     let r = c .before .before .before .before .before .before .before .before .before .before .loop .link - 1 in
-    (c .count2 .result ≡ link r (arc-of (table (start .args .t .now)) 2 (start .args .j))) × (c .count2 .result ≤ r)
+    (c .onward .result ≡ link r (arc-of (table (start .args .t .now)) 2 (start .args .j))) × (c .onward .result ≤ r)
 next-link c =
     let start = begun (c .before .before .before .before .before .before) in
     let tb : Table = table (start .args .t .now) in
     let r : ℕ = c .before .before .before .before .before .before .before .before .before .before .loop .link - 1 in
     let h = here (c .before .before .before .before .before .before) in
-    let is : c .count2 .result ≡ link r (arc-of tb 2 (start .args .j)) = c .count2 .ensures ∙ own-chain tb 2 (start .args .j) r (h .1) (start .pre .0 .goes-on r (h .0)) in
+    let is : c .onward .result ≡ link r (arc-of tb 2 (start .args .j)) = c .onward .ensures ∙ own-chain tb 2 (start .args .j) r (h .1) (start .pre .0 .goes-on r (h .0)) in
     (is, omega (arith, is, link-le r (arc-of tb 2 (start .args .j))))
 
 loop-less : tie.Need-loop-less Inv-loop μ-loop
@@ -178,9 +178,9 @@ inhibits-spec =
     element-copy-out-opposed-2
     opposed-requires-2
     returns-2
-    mul-count-2
-    shared-slice-read-count
-    count-requires-2
+    mul-onward
+    shared-slice-read-onward
+    onward-requires
     loop-less
     loop-again
     returns-3)

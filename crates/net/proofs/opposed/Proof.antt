@@ -79,27 +79,27 @@ inside c =
     let pre = begun c .pre in
     omega (arith, here c (pre .0 .sort) (pre .0 .to) (pre .0 .begins) .0, pre .1)
 
-mul-count : tie.Need-mul-count Inv-loop μ-loop
-mul-count c = omega (arith, inside (c .before), begun (c .before) .good .1 .0 .1)
+mul-onward : tie.Need-mul-onward Inv-loop μ-loop
+mul-onward c = omega (arith, inside (c .before), begun (c .before) .good .1 .0 .1)
 
-shared-slice-read-count : tie.Need-shared-slice-read-count Inv-loop μ-loop
-shared-slice-read-count c = inside (c .before .before)
+shared-slice-read-onward : tie.Need-shared-slice-read-onward Inv-loop μ-loop
+shared-slice-read-onward c = inside (c .before .before)
 
-count-requires-2 : tie.Need-count-requires-2 Inv-loop μ-loop
-count-requires-2 c κs = search needs
+onward-requires : tie.Need-onward-requires Inv-loop μ-loop
+onward-requires c κs = search needs
 
 -- The next link is to the arc before, in every such chain.
-next-link : (c : tie.After-count2 Inv-loop μ-loop)
+next-link : (c : tie.After-onward Inv-loop μ-loop)
     → let start = begun (c .before .before .before) in
     let tb = table (start .args .t .now) in
     let r = c .before .before .before .before .before .before .loop .link - 1 in
-    (sort u : ℕ) → start .args .first ≡ link (tb .records) (arc-of tb sort u) → c .count2 .result ≡ link r (arc-of tb sort u)
+    (sort u : ℕ) → start .args .first ≡ link (tb .records) (arc-of tb sort u) → c .onward .result ≡ link r (arc-of tb sort u)
 next-link c sort u e =
     let start = begun (c .before .before .before) in
     let tb : Table = table (start .args .t .now) in
     let r : ℕ = c .before .before .before .before .before .before .loop .link - 1 in
     let h = here (c .before .before .before) sort u e in
-    c .count2 .ensures ∙ own-chain tb sort u r (h .1) (start .pre .0 .goes-on r (h .0))
+    c .onward .ensures ∙ own-chain tb sort u r (h .1) (start .pre .0 .goes-on r (h .0))
 
 loop-less : tie.Need-loop-less Inv-loop μ-loop
 loop-less c =
@@ -133,9 +133,9 @@ opposed-spec =
     read-requires
     opposes-requires
     returns
-    mul-count
-    shared-slice-read-count
-    count-requires-2
+    mul-onward
+    shared-slice-read-onward
+    onward-requires
     loop-less
     loop-again
     returns-2)

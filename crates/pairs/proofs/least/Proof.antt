@@ -34,11 +34,11 @@ search-holds : tie.Need-search-holds Inv-loop μ-loop Inv-search μ-search
 search-holds c = (omega arith, refl, λ k l. absurd (not-suc-le-zero l))
 
 row-requires : tie.Need-row-requires Inv-loop μ-loop Inv-search μ-search
-row-requires c κs = omega (arith, c .before .before .before .before .pre .0 .most)
+row-requires c κs = omega (arith, c .before .before .before .before .before .pre .0 .1)
 
 loop-holds : tie.Need-loop-holds Inv-loop μ-loop Inv-search μ-search
 loop-holds c =
-    let a = c .before .before .before .before .before .args in
+    let a = c .before .before .before .before .before .before .args in
     let i : ℕ = c .before .before .search .i in
     let is = c .row .ensures in
     (omega arith, refl, rw is (out-row (table (a .t .now)) (a .rows .now) i), rw is (λ j e. e))
@@ -54,14 +54,14 @@ member c =
 
 apart-requires : tie.Need-apart-requires Inv-loop μ-loop Inv-search μ-search
 apart-requires c κs =
-    let start = c .before .before .before .before .before .before .before .before in
-    (start .pre .1 .0, (omega (arith, start .pre .0 .most), member c .0, start .pre .1 .1))
+    let start = c .before .before .before .before .before .before .before .before .before in
+    (start .pre .1 .0, (omega (arith, start .pre .0 .0 .most), member c .0, start .pre .1 .1))
 
 mul-found : tie.Need-mul-found Inv-loop μ-loop Inv-search μ-search
-mul-found c = omega (arith, member (c .before .before) .0, c .before .before .before .before .before .before .before .before .before .before .pre .0 .most)
+mul-found c = omega (arith, member (c .before .before) .0, c .before .before .before .before .before .before .before .before .before .before .before .pre .0 .0 .most)
 
 add-found : tie.Need-add-found Inv-loop μ-loop Inv-search μ-search
-add-found c = omega (arith, member (c .before .before) .0, c .before .before .before .before .before .before .before .before .before .before .pre .0 .most)
+add-found c = omega (arith, member (c .before .before) .0, c .before .before .before .before .before .before .before .before .before .before .before .pre .0 .0 .most)
 
 rest-requires : tie.Need-rest-requires Inv-loop μ-loop Inv-search μ-search
 rest-requires c κs = search needs
@@ -77,7 +77,7 @@ loop-again c =
     let at = c .before .before .before .before .before .loop in
     let j = c .before .before .before .lowest in
     let turn = c .before .before .before .before .before .before .before .before in
-    let a = turn .before .before .before .args in
+    let a = turn .before .before .before .before .args in
     let less = rw (← j .ensures) at (c .rest .ensures) in
     let apart = c .before .before .apart in (
       omega arith,
@@ -96,7 +96,7 @@ search-less c = search needs
 search-again : tie.Need-search-again Inv-loop μ-loop Inv-search μ-search
 search-again c =
     let turn = c .before .before .before .before in
-    let a = turn .before .before .before .args in
+    let a = turn .before .before .before .before .args in
     let at = c .before .loop in
     let all = up-to (table (a .t .now)) (a .rows .now) (turn .search .i) 64 (omega arith) (turn .search .inv .2)
     (λ k l. at .inv .2 k l (ap (λ (x : ℕ). bit x k) (c .loop-test .left) ∙ bit-zero k)) in
@@ -105,19 +105,19 @@ search-again c =
 returns : tie.Need-returns Inv-loop μ-loop Inv-search μ-search
 returns c =
     let l = c .before .search in
-    let start = c .before .before .before .before in
-    not-found (table (start .args .t .now)) (start .args .rows .now) (l .i) (l .found) (start .pre .0) (omega arith) (l .inv .1) (l .inv .2)
+    let start = c .before .before .before .before .before in
+    not-found (table (start .args .t .now)) (start .args .rows .now) (l .i) (l .found) (start .pre .0 .0) (omega arith) (l .inv .1) (l .inv .2)
 
 returns-2 : tie.Need-returns-2 Inv-loop μ-loop Inv-search μ-search
 returns-2 c =
     let at = c .before .before .before .before .loop in
     let turn = c .before .before .before .before .before .before .before in
-    let start = turn .before .before .before in
+    let start = turn .before .before .before .before in
     let a = start .args in
     let i : ℕ = turn .search .i in
     let j = c .before .before .lowest in
     let k = member (c .before .before) in
-    let inside : i < 64 = omega (arith, start .pre .0 .most) in
+    let inside : i < 64 = omega (arith, start .pre .0 .0 .most) in
     let none = up-to (table (a .t .now)) (a .rows .now) i (j .result) (omega (arith, k .0)) (turn .search .inv .2)
     (λ m l. at .inv .2 m (omega (arith, k .0)) (first-before 64 (bit (at .left)) m (rw (j .ensures) at l))) in
     found (table (a .t .now)) (a .rows .now) i (j .result) (c .before .apart .result) inside (k .0) none (at .inv .3 (j .result) (k .1))

@@ -1,4 +1,4 @@
--- The loop keeps what is kept or still to be kept: whoever is in the set's rest and has no condition against one of i's.
+-- Of nobody nobody is left. The loop keeps what is kept or still to be kept: whoever is in the set's rest and has no condition against one of i's.
 use mathlib.Core.Bool.{Bool, true, false, not, _&&_, _||_, or-false}
 use mathlib.Core.Logic.{inl, inr}
 use mathlib.Core.Path.{_≡_, sym, ap, _∙_}
@@ -24,6 +24,9 @@ Inv-loop row index truths i looks wants left₀ kept₀ left kept =
 
 abbrev μ-loop : tie.MeasureT-loop
 μ-loop row index truths i looks wants left₀ kept₀ left kept = left
+
+returns : tie.Need-returns Inv-loop μ-loop
+returns c j h = rw (c .if1 .taken, bit-zero j)
 
 mul-line : tie.Need-mul-line Inv-loop μ-loop
 mul-line c = search needs
@@ -81,27 +84,27 @@ loop-again c =
     let low = asked .before .before .before in
     let at = low .before .before .loop in
     let wants = low .before .before .before in
-    let a = wants .before .before .before .before .args in
+    let a = wants .before .before .before .before .before .args in
     let k = member low in
     let j : ℕ = low .lowest .result in
     let less = rw (← low .lowest .ensures) at (c .rest .ensures) in
     let f : ℕ → Bool = λ j. not (crossed-at (a .index .now) (a .truths .now) (a .i) j) in
-    let one : (b : Bool) → b ≡ f j → ((m : ℕ) → bit (c .before .if1 .kept) m ≡ (bit (at .kept) m || (b && (eqb j m && ltb j 64))))
-    → (m : ℕ) → (bit (c .before .if1 .kept) m || (bit (c .rest .result) m && f m)) ≡ (bit (at .kept) m || (bit (at .left) m && f m)) =
-    λ b e gains. kept (at .left) j (c .rest .result) less f (at .kept) (c .before .if1 .kept) b (k .0) (k .1) e gains in
+    let one : (b : Bool) → b ≡ f j → ((m : ℕ) → bit (c .before .if2 .kept) m ≡ (bit (at .kept) m || (b && (eqb j m && ltb j 64))))
+    → (m : ℕ) → (bit (c .before .if2 .kept) m || (bit (c .rest .result) m && f m)) ≡ (bit (at .kept) m || (bit (at .left) m && f m)) =
+    λ b e gains. kept (at .left) j (c .rest .result) less f (at .kept) (c .before .if2 .kept) b (k .0) (k .1) e gains in
     let whole =
     ap not
     (asked .crossed .ensures
     ∙ crossed-same (wants .before .line .ensures) (wants .line2 .ensures) (asked .before .before .line3 .ensures) (asked .before .line4 .ensures)) in (
       omega arith,
-      elim (c .before .if1 .came) [
+      elim (c .before .if2 .came) [
         | inl w ↦ λ m h. one true (sym (w .0 .taken) ∙ whole) (λ q. rw (w .2) (w .1 .ensures q)) m ∙ at .inv .1 m h
         | inr w ↦ λ m h. one false (sym (w .0 .left) ∙ whole) (λ q. rw (w .1) (sym (or-false (bit (at .kept) q)))) m ∙ at .inv .1 m h
       ],
     )
 
-returns : tie.Need-returns Inv-loop μ-loop
-returns c =
+returns-2 : tie.Need-returns-2 Inv-loop μ-loop
+returns-2 c =
     λ j h.
     let at = c .before .loop in
     let over : bit (at .left) j ≡ false = ap (λ (x : ℕ). bit x j) (c .loop-test .left) ∙ bit-zero j in
@@ -113,6 +116,7 @@ left-of-spec =
     (tie.spec
     Inv-loop
     μ-loop
+    returns
     mul-line
     add-line
     line-requires
@@ -128,4 +132,4 @@ left-of-spec =
     rest-requires
     loop-less
     loop-again
-    returns)
+    returns-2)

@@ -52,19 +52,19 @@ module _ (below above index truths : List ℕ) (i row passed ranked out less kep
 
 -- The first i rows are narrowed, and whether any of them has somebody left.
 record Part (below above index truths before rows : List ℕ) (i : ℕ) (any : Bool) : Type 0 where
-  size : length rows ≡ 64
+  size : length rows ≡ length before
   done : (x j : ℕ) → x < i → j < 64 → bit (getD rows x 0) j ≡ (bit (getD before x 0) j && open-by below above index truths x j)
   same : (x : ℕ) → i ≤ x → getD rows x 0 ≡ getD before x 0
   any-is : any ≡ some i (λ x. some 64 (bit (getD rows x 0)))
 
 module _ (below above index truths before : List ℕ) where
-  begins : length before ≡ 64 → Part below above index truths before before 0 false
+  begins : Part below above index truths before before 0 false
   unfolding some
-  begins h = record { size = h; done = λ x j l. absurd (not-suc-le-zero l); same = λ x l. refl; any-is = refl }
+  begins = record { size = refl; done = λ x j l. absurd (not-suc-le-zero l); same = λ x l. refl; any-is = refl }
 
   module _ (rows : List ℕ) (i : ℕ) (any : Bool) (p : Part below above index truths before rows i any) where
     -- Row i is narrowed.
-    more : (kept : ℕ) (new : Bool) → i < 64 → ((j : ℕ) → j < 64 → bit kept j ≡ (bit (getD rows i 0) j && open-by below above index truths i j))
+    more : (kept : ℕ) (new : Bool) → i < length rows → ((j : ℕ) → j < 64 → bit kept j ≡ (bit (getD rows i 0) j && open-by below above index truths i j))
         → new ≡ (any || some 64 (bit kept)) → Part below above index truths before (set rows i kept) (i + 1) new
     unfolding some
     more kept new h keeps joins =
@@ -87,7 +87,7 @@ module _ (below above index truths before : List ℕ) where
         }
       where
         here : getD (set rows i kept) i 0 ≡ kept
-        here = getD-set-same rows i kept 0 (omega (arith, p .size))
+        here = getD-set-same rows i kept 0 h
 
         other : (x : ℕ) → ¬ (x ≡ i) → getD (set rows i kept) x 0 ≡ getD rows x 0
         other x n = getD-set-other rows i x kept 0 n
@@ -117,7 +117,7 @@ abbrev μ-loop : tie.MeasureT-loop
 μ-loop rows₀ below above index truths n any₀ passed₀ i₀ rows any passed i = n - i
 
 loop-holds : tie.Need-loop-holds Inv-loop μ-loop
-loop-holds c = (omega arith, begins _ _ _ _ _ (c .before .before .pre .0), no-number (λ _. true))
+loop-holds c = (omega arith, begins _ _ _ _ _, no-number (λ _. true))
 
 with-requires : tie.Need-with-requires Inv-loop μ-loop
 with-requires c κs = search needs
@@ -125,14 +125,14 @@ with-requires c κs = search needs
 mul-union : tie.Need-mul-union Inv-loop μ-loop
 mul-union c = search needs
 
-element-copy-out-union : tie.Need-element-copy-out-union Inv-loop μ-loop
-element-copy-out-union c = search needs
+shared-slice-read-union : tie.Need-shared-slice-read-union Inv-loop μ-loop
+shared-slice-read-union c = search needs
 
 mul-union-2 : tie.Need-mul-union-2 Inv-loop μ-loop
 mul-union-2 c = search needs
 
-element-copy-out-union-2 : tie.Need-element-copy-out-union-2 Inv-loop μ-loop
-element-copy-out-union-2 c = search needs
+shared-slice-read-union-2 : tie.Need-shared-slice-read-union-2 Inv-loop μ-loop
+shared-slice-read-union-2 c = search needs
 
 union-requires : tie.Need-union-requires Inv-loop μ-loop
 union-requires c κs = search needs
@@ -140,8 +140,8 @@ union-requires c κs = search needs
 mul-less : tie.Need-mul-less Inv-loop μ-loop
 mul-less c = search needs
 
-element-copy-out-less : tie.Need-element-copy-out-less Inv-loop μ-loop
-element-copy-out-less c = search needs
+slice-read-less : tie.Need-slice-read-less Inv-loop μ-loop
+slice-read-less c = search needs
 
 union-requires-2 : tie.Need-union-requires-2 Inv-loop μ-loop
 union-requires-2 c κs = search needs
@@ -155,8 +155,8 @@ left-of-requires c κs = search needs
 mul-rows : tie.Need-mul-rows Inv-loop μ-loop
 mul-rows c = search needs
 
-element-write-rows : tie.Need-element-write-rows Inv-loop μ-loop
-element-write-rows c = search needs
+slice-write-rows : tie.Need-slice-write-rows Inv-loop μ-loop
+slice-write-rows c = search needs
 
 or-any-requires : tie.Need-or-any-requires Inv-loop μ-loop
 or-any-requires c κs = search needs
@@ -172,23 +172,26 @@ loop-again c =
     let joined = c .before .before .before .before .before in
     let with = joined .before .before .before in
     let at = with .before .before .loop in
-    let start = with .before .before .before .before .before in
+    let start = with .before .before .before .before .before .before .before .before in
     let a = start .args in
     let i : ℕ = at .i in
-    let low : i < 64 = omega (arith, start .pre .1 .most) in
+    let low : i < 64 = omega (arith, start .pre .0 .most) in
     let passed : (j : ℕ) → bit (with .with .result) j ≡ (ltb j (i + 1) && true) =
     λ j. next-number (λ _. true) j i {y = true} low refl (with .with .ensures j) (at .inv .2 j) in
     let keeps = opens (a .below .now) (a .above .now) (a .index .now) (a .truths .now) i (getD (at .rows) i 0) _ (joined .union .result) _ _ _ passed
     (joined .union .ensures) (c .before .before .before .union2 .ensures) (c .before .before .less .ensures) (c .before .left-of .ensures) in
-    (omega arith, more _ _ _ _ _ (at .rows) i (at .any) (at .inv .1) _ _ low keeps (c .or-any .ensures), passed)
+    (omega arith, more _ _ _ _ _ (at .rows) i (at .any) (at .inv .1) _ _ (omega arith) keeps (c .or-any .ensures), passed)
+
+same-length : tie.Need-same-length Inv-loop μ-loop
+same-length c = c .before .loop .inv .1 .size
 
 returns : tie.Need-returns Inv-loop μ-loop
 returns c =
     let at = c .before .loop in
-    let start = c .before .before .before .before in
+    let start = c .before .before .before .before .before .before .before in
     let end : at .i ≡ start .args .n = omega (arith, at .inv .0) in (
-      narrowed _ _ _ _ _ (at .rows) (at .i) (at .any) (at .inv .1) _ (start .pre .1) end,
-      answers _ _ _ _ _ (at .rows) (at .i) (at .any) (at .inv .1) _ (start .pre .1) end,
+      narrowed _ _ _ _ _ (at .rows) (at .i) (at .any) (at .inv .1) _ (start .pre .0) end,
+      answers _ _ _ _ _ (at .rows) (at .i) (at .any) (at .inv .1) _ (start .pre .0) end,
     )
 
 pub narrow-spec : {M : Type 1} → statement M
@@ -200,19 +203,20 @@ narrow-spec =
     loop-holds
     with-requires
     mul-union
-    element-copy-out-union
+    shared-slice-read-union
     mul-union-2
-    element-copy-out-union-2
+    shared-slice-read-union-2
     union-requires
     mul-less
-    element-copy-out-less
+    slice-read-less
     union-requires-2
     less-requires
     left-of-requires
     mul-rows
-    element-write-rows
+    slice-write-rows
     or-any-requires
     add-i
     loop-less
     loop-again
+    same-length
     returns)

@@ -25,20 +25,20 @@ abbrev μ-loop : tie.MeasureT-loop
 μ-loop rows n t₀ t = n - t
 
 loop-holds : tie.Need-loop-holds Inv-loop μ-loop
-loop-holds c = (omega arith, c .pre, λ k h. absurd (not-suc-le-zero h))
+loop-holds c = (omega arith, c .before .pre .0, λ k h. absurd (not-suc-le-zero h))
 
 mul-has : tie.Need-mul-has Inv-loop μ-loop
 mul-has c = search needs
 
-element-copy-out-has : tie.Need-element-copy-out-has Inv-loop μ-loop
-element-copy-out-has c = search needs
+shared-slice-read-has : tie.Need-shared-slice-read-has Inv-loop μ-loop
+shared-slice-read-has c = search needs
 
 has-requires : tie.Need-has-requires Inv-loop μ-loop
 has-requires c κs = search needs
 
 returns : tie.Need-returns Inv-loop μ-loop
 returns c =
-    let rows = c .before .before .before .before .before .args .rows .now in
+    let rows = c .before .before .before .before .before .before .args .rows .now in
     let at = c .before .before .before .before .loop in
     let here = sym (c .before .has .ensures) ∙ c .if1 .taken in
     sym (first-is 64 (λ t. bit (getD rows t 0) t) (at .t) (omega arith) here (at .inv .2))
@@ -56,7 +56,7 @@ loop-again c =
 
 returns-2 : tie.Need-returns-2 Inv-loop μ-loop
 returns-2 c =
-    let rows = c .before .before .args .rows .now in
+    let rows = c .before .before .before .args .rows .now in
     let at = c .before .loop in
     sym
     (first-none 64 (λ t. bit (getD rows t 0) t)
@@ -73,7 +73,7 @@ circle-spec =
     μ-loop
     loop-holds
     mul-has
-    element-copy-out-has
+    shared-slice-read-has
     has-requires
     returns
     add-t

@@ -1,39 +1,44 @@
 -- The loop keeps what each row has or is still to take: all of `what`, where it is in the rest of `to`.
 use mathlib.Core.Bool.{true}
-use mathlib.Core.Path.{_≡_, refl, _∙_}
+use mathlib.Core.Path.{_≡_, refl, sym, _∙_}
 use Prim.Native.Nat.{ℕ, _^_, _<_}
 use native.Mathlib.Omega.{arith}
 use lib.ListN.{length, length-set}
 use borrow.Author.Needs.{needs}
 use Rattle.meaning.specs.Bytes.{bit}
+use Rattle.meaning.proofs.Bool.{and-left}
 use Rattle.sets.proofs.Members.{lowest-in, due, falls, added, none-due}
 use Rattle.sets.proofs.give.Statement.{statement}
 use Rattle.sets.proofs.give.Tie as tie
 
 abbrev Inv-loop : tie.InvT-loop
 Inv-loop rows₀ to what left₀ rows left =
-    (left < 2 ^ 64) × (length rows ≡ 64)
+    (left < 2 ^ 64) × (length rows ≡ length rows₀) × ((t : ℕ) → bit left t ≡ true → t < length rows₀)
     × ((t j : ℕ) → due rows left (bit what) t j ≡ due rows₀ to (bit what) t j)
 
 abbrev μ-loop : tie.MeasureT-loop
 μ-loop rows₀ to what left₀ rows left = left
 
 loop-holds : tie.Need-loop-holds Inv-loop μ-loop
-loop-holds c = (omega arith, c .pre, λ t j. refl)
+loop-holds c = (omega arith, refl, c .before .pre, λ t j. refl)
 
 lowest-requires : tie.Need-lowest-requires Inv-loop μ-loop
 lowest-requires c κs = search needs
 
--- The member that is taken is below 64, and in what is left.
-member : (c : tie.After-lowest Inv-loop μ-loop) → (c .lowest .result < 64) × (bit (c .before .before .loop .left) (c .lowest .result) ≡ true)
+-- The member that is taken is below 64, in what is left, and has a row.
+member : (c : tie.After-lowest Inv-loop μ-loop)
+    → (c .lowest .result < 64) × (bit (c .before .before .loop .left) (c .lowest .result) ≡ true)
+    × (c .lowest .result < length (c .before .before .loop .rows))
 member c =
-    lowest-in (c .before .before .loop .left) (c .lowest .result) (c .before .before .loop .inv .0) (c .before .loop-test .taken) (c .lowest .ensures)
+    let at = c .before .before .loop in
+    let k = lowest-in (at .left) (c .lowest .result) (at .inv .0) (c .before .loop-test .taken) (c .lowest .ensures) in
+    (k .0, k .1, omega (arith, at .inv .2 (c .lowest .result) (k .1)))
 
 mul-union : tie.Need-mul-union Inv-loop μ-loop
 mul-union c = omega (arith, member c .0)
 
-element-copy-out-union : tie.Need-element-copy-out-union Inv-loop μ-loop
-element-copy-out-union c = omega (arith, member c .0)
+slice-read-union : tie.Need-slice-read-union Inv-loop μ-loop
+slice-read-union c = omega (arith, member (c .before) .2)
 
 union-requires : tie.Need-union-requires Inv-loop μ-loop
 union-requires c κs = search needs
@@ -41,8 +46,8 @@ union-requires c κs = search needs
 mul-rows : tie.Need-mul-rows Inv-loop μ-loop
 mul-rows c = omega (arith, member (c .before .before) .0)
 
-element-write-rows : tie.Need-element-write-rows Inv-loop μ-loop
-element-write-rows c = omega (arith, member (c .before .before) .0)
+slice-write-rows : tie.Need-slice-write-rows Inv-loop μ-loop
+slice-write-rows c = omega (arith, member (c .before .before) .2)
 
 rest-requires : tie.Need-rest-requires Inv-loop μ-loop
 rest-requires c κs = search needs
@@ -60,16 +65,20 @@ loop-again c =
     let k = member (c .before .before .before) in (
       omega arith,
       simp length-set (omega arith),
+      λ t e. at .inv .2 t (and-left (bit (at .left) t) _ (sym (c .rest .ensures t) ∙ e)),
       λ t j.
-          added (at .left) (low .result) (c .rest .result) (rw (low .ensures) (c .rest .ensures)) (at .rows) (c .before .union .result) _ (omega (arith, k .0))
-          (k .1) (c .before .union .ensures) t j ∙ at .inv .2 t j,
+          added (at .left) (low .result) (c .rest .result) (rw (low .ensures) (c .rest .ensures)) (at .rows) (c .before .union .result) _ (k .2) (k .1)
+          (c .before .union .ensures) t j ∙ at .inv .3 t j,
     )
+
+same-length : tie.Need-same-length Inv-loop μ-loop
+same-length c = search needs
 
 returns : tie.Need-returns Inv-loop μ-loop
 returns c =
     let at = c .before .loop in
-    let what : ℕ = c .before .before .args .what in
-    record { size = at .inv .1; holds = λ t j h. none-due (at .rows) (at .left) (bit what) t j (c .loop-test .left) ∙ at .inv .2 t j }
+    let what : ℕ = c .before .before .before .args .what in
+    record { size = at .inv .1; holds = λ t j h. none-due (at .rows) (at .left) (bit what) t j (c .loop-test .left) ∙ at .inv .3 t j }
 
 pub give-spec : {M : Type 1} → statement M
 give-spec =
@@ -80,11 +89,12 @@ give-spec =
     loop-holds
     lowest-requires
     mul-union
-    element-copy-out-union
+    slice-read-union
     union-requires
     mul-rows
-    element-write-rows
+    slice-write-rows
     rest-requires
     loop-less
     loop-again
+    same-length
     returns)

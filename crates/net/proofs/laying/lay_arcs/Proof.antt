@@ -117,31 +117,37 @@ there tb of r t p here two one = and-true (and-true here (eq-eqb (tb .two r) t (
 
 abbrev Inv-loop : tie.InvT-loop
 Inv-loop t w₀ s₀ curbs₀ low₀ high₀ n gain₀ r₀ w s curbs low high gain r =
-    (r ≤ n) × Part (table t) (length w₀) r w s curbs low high gain
+    (r ≤ n) × Part (table t) (length w₀) r w s curbs low high gain × (length low ≡ length low₀) × (length high ≡ length high₀)
 
 abbrev μ-loop : tie.MeasureT-loop
 μ-loop t w₀ s₀ curbs₀ low₀ high₀ n gain₀ r₀ w s curbs low high gain r = n - r
 
+-- What the function began with.
+abbrev begun : tie.At-loop Inv-loop μ-loop → tie.Start Inv-loop μ-loop
+begun c = c .before .before .before .before
+
 loop-holds : tie.Need-loop-holds Inv-loop μ-loop
 unfolding sum
 loop-holds c =
-    let tb : Table = table (c .before .args .t .now) in
-    let rows : ℕ = length (c .before .args .w .now) in
-    let pre = c .before .pre .1 in
-    let first = pre .0 in
-    let second = pre .1 .0 in (
+    let start = c .before .before .before in
+    let tb : Table = table (start .args .t .now) in
+    let rows : ℕ = length (start .args .w .now) in
+    let first = start .pre .1 .0 in
+    let second = start .pre .1 .1 .0 in (
       omega arith,
-      rw (first .2, second .0, second .1)
+      rw (first .2)
           (record {
             cells = (
               subst (Kept tb (tb .four) rows 0) (sym (first .0)) (kept-none tb (tb .four) rows),
               subst (Kept tb (tb .sort) rows 0) (sym (first .1)) (kept-none tb (tb .sort) rows),
             );
             curbing = grown-none 128 (names tb 3 2);
-            entering = reached-none tb (asking tb);
+            entering = reached-none tb (asking tb) _ _ (second .0) (second .1);
             gains = refl;
             most = omega arith;
           }),
+      refl,
+      refl,
     )
 
 read-requires : tie.Need-read-requires Inv-loop μ-loop
@@ -154,28 +160,35 @@ wide-requires-2 : tie.Need-wide-requires-2 Inv-loop μ-loop
 wide-requires-2 c κs = search needs
 
 -- The record at hand is one of at most 1,024, and where it is an arc its place is one of the 128, its transition one of the 64, its weight small, and
--- its sort one of the four; its place has a row.
+-- its sort one of the four; its place has a row, and its transition two.
 in-range : (c : tie.After-wide2 Inv-loop μ-loop)
     → let read = c .before .before in
     (read .before .before .loop .r < 1024)
     × (read .read .result .kind ≡ 3
     → (c .before .wide .result < 128) × (c .wide2 .result < 64) × (read .read .result .four ≤ 65535) × (read .read .result .sort ≤ 3)
-    × (c .before .wide .result < length (read .before .before .before .before .args .w .now)))
+    × (c .before .wide .result < length (begun (read .before .before) .args .w .now))
+    × (c .wide2 .result < length (begun (read .before .before) .args .low .now))
+    × (c .wide2 .result < length (begun (read .before .before) .args .high .now)))
 unfolding table
 in-range c =
     let read = c .before .before in
-    let bs = read .before .before .before .before .args .t .now in
-    let e = read .before .before .before .before .pre .0 in
+    let start = begun (read .before .before) in
+    let bs = start .args .t .now in
+    let e = start .pre .0 in
     let r : ℕ = read .before .before .loop .r in
     let reads = read .read .ensures in (
       omega (arith, few-records bs e),
       λ k.
-          let range = arc-ranges bs e r (omega arith) (sym (reads .kind) ∙ k) in (
+          let kind : table bs .kind r ≡ 3 = sym (reads .kind) ∙ k in
+          let range = arc-ranges bs e r (omega arith) kind in
+          let two = start .pre .1 .1 .1 .0 r (omega arith) (eq-eqb _ _ kind) in (
             omega (arith, c .before .wide .ensures, reads .one, range .0),
             omega (arith, c .wide2 .ensures, reads .two, range .1),
             omega (arith, reads .four, range .3),
-            omega (arith, reads .sort, arc-sort bs e r (omega arith) (sym (reads .kind) ∙ k)),
-            omega (arith, c .before .wide .ensures, reads .one, read .before .before .before .before .pre .1 .1 .1 r (omega arith)),
+            omega (arith, reads .sort, arc-sort bs e r (omega arith) kind),
+            omega (arith, c .before .wide .ensures, reads .one, start .pre .1 .1 .1 .1 r (omega arith)),
+            omega (arith, c .wide2 .ensures, reads .two, two .0),
+            omega (arith, c .wide2 .ensures, reads .two, two .1),
           ),
     )
 
@@ -199,11 +212,12 @@ touch-requires : tie.Need-touch-requires Inv-loop μ-loop
 touch-requires c κs =
     let then1 = c .before .before .before .before .before .before .before .before .before in
     let w = in-range (then1 .before .before) .1 (then1 .if1 .taken) in
-    (w .1, w .0)
+    let at = then1 .before .before .before .before .before .before .loop in
+    (w .1, w .0, omega (arith, w .5, at .inv .2), omega (arith, w .6, at .inv .3))
 
 curb-requires : tie.Need-curb-requires Inv-loop μ-loop
 curb-requires c κs =
-    let then1 = c .before .before .before .before .before .before .before .before .before .before .before in
+    let then1 = c .before .before .before .before .before .before .before .before .before .before .before .before .before .before .before in
     let w = in-range (then1 .before .before) .1 (then1 .if1 .taken) in
     (w .0, w .1)
 
@@ -218,7 +232,7 @@ loop-again c =
     let wide = c .before .before in
     let read = wide .before .before in
     let at = read .before .before .loop in
-    let tb : Table = table (read .before .before .before .before .args .t .now) in
+    let tb : Table = table (begun (read .before .before) .args .t .now) in
     let r : ℕ = at .r in
     let x = read .read .result in
     let reads : Reads tb r x = read .read .ensures in
@@ -228,42 +242,57 @@ loop-again c =
     let here = at .inv .1 in
     let kind : x .kind ≡ 3 → tb .kind r ≡ 3 = λ k. sym (reads .kind) ∙ k in
     let low : x .kind ≡ 3 → ¬ (x .sort ≡ 3) → tb .sort r < 3 = λ k n. omega (arith, range .1 k .3, reads .sort, n) in
-    let asks : x .kind ≡ 3 → ¬ (x .sort ≡ 3) → asking tb r ≡ true = λ k n. and-true (eq-eqb _ _ (kind k)) (lt-ltb _ 3 (low k n)) in (
-      omega arith,
-      elim (c .if1 .came) [
-        | inl w ↦
-            rw (w .4, w .5, w .6, w .7, w .8, w .9)
-            (post-more tb _ r _ _ _ _ _ _ here (kind (w .0 .taken)) (sym (reads .sort) ∙ w .2 .taken) _ (reads .four) (range .1 (w .0 .taken) .2))
-        | inr (inl w) ↦
-            rw (w .13, w .14, w .15, w .16, w .17, w .18)
-            (input-more tb _ r _ _ _ _ _ _ here (kind (w .0 .taken)) (λ z. w .2 .left (reads .sort ∙ z)) _ _
-            (w .5 .ensures tb _ r (an-input tb r _ _ (kind (w .0 .taken)) (low (w .0 .taken) (w .2 .left)) one two) (reads .four) (reads .sort) (here .cells .0) (here .cells .1)) _ _
-            (w .10 .ensures tb (asking tb) r (there tb (asking tb) r _ _ (asks (w .0 .taken) (w .2 .left)) two one) (here .entering)) _
-            (w .12 .ensures tb r (kind (w .0 .taken)) one two (reads .sort) (here .curbing)))
-        | inr (inr w) ↦ rw (w .1, w .2, w .3, w .4, w .5, w .6) (no-arc-more tb _ r _ _ _ _ _ _ here (λ z. w .0 .left (reads .kind ∙ z)))
-      ],
-    )
+    let asks : x .kind ≡ 3 → ¬ (x .sort ≡ 3) → asking tb r ≡ true = λ k n. and-true (eq-eqb _ _ (kind k)) (lt-ltb _ 3 (low k n)) in
+    elim (c .if1 .came) [
+      | inl w ↦
+          rw (w .4, w .5, w .6, w .7, w .8, w .9) (
+            omega arith,
+            post-more tb _ r _ _ _ _ _ _ here (kind (w .0 .taken)) (sym (reads .sort) ∙ w .2 .taken) _ (reads .four) (range .1 (w .0 .taken) .2),
+            at .inv .2,
+            at .inv .3,
+          )
+      | inr (inl w) ↦
+          rw (w .17, w .18, w .19, w .20, w .21, w .22) (
+            omega arith,
+            input-more tb _ r _ _ _ _ _ _ here (kind (w .0 .taken)) (λ z. w .2 .left (reads .sort ∙ z)) _ _
+                (w .5 .ensures tb _ r (an-input tb r _ _ (kind (w .0 .taken)) (low (w .0 .taken) (w .2 .left)) one two) (reads .four) (reads .sort) (here .cells .0) (here .cells .1)) _ _
+                (w .10 .ensures tb (asking tb) r (there tb (asking tb) r _ _ (asks (w .0 .taken) (w .2 .left)) two one) (here .entering)) _
+                (w .16 .ensures tb r (kind (w .0 .taken)) one two (reads .sort) (here .curbing)),
+            w .10 .kept .0 ∙ at .inv .2,
+            w .10 .kept .1 .0 ∙ at .inv .3,
+          )
+      | inr (inr w) ↦
+          rw (w .1, w .2, w .3, w .4, w .5, w .6)
+          (omega arith, no-arc-more tb _ r _ _ _ _ _ _ here (λ z. w .0 .left (reads .kind ∙ z)), at .inv .2, at .inv .3)
+    ]
 
 same-length : tie.Need-same-length Inv-loop μ-loop
 same-length c = c .before .loop .inv .1 .cells .0 .places
 
 same-length-2 : tie.Need-same-length-2 Inv-loop μ-loop
-same-length-2 c = c .before .loop .inv .1 .cells .1 .places ∙ sym (both c)
+same-length-2 c = c .before .loop .inv .1 .cells .1 .places ∙ sym (both (begun (c .before)))
   where
     -- Both arrays have the same number of rows.
-    both : (c : tie.After-loop Inv-loop μ-loop) → length (c .before .before .before .args .s .now) ≡ length (c .before .before .before .args .w .now)
-    both c = ap (λ (z : List (List ℕ)). length z) (c .before .before .before .pre .1 .0 .1) ∙ length-replicate (length (c .before .before .before .args .w .now)) empty
+    both : (c : tie.Start Inv-loop μ-loop) → length (c .args .s .now) ≡ length (c .args .w .now)
+    both c = ap (λ (z : List (List ℕ)). length z) (c .pre .1 .0 .1) ∙ length-replicate (length (c .args .w .now)) empty
+
+same-length-3 : tie.Need-same-length-3 Inv-loop μ-loop
+same-length-3 c = c .before .loop .inv .2
+
+same-length-4 : tie.Need-same-length-4 Inv-loop μ-loop
+same-length-4 c = c .before .loop .inv .3
 
 returns : tie.Need-returns Inv-loop μ-loop
 unfolding total
 returns c =
     let at = c .before .loop in
-    let bs = c .before .before .before .args .t .now in
-    let rows : ℕ = length (c .before .before .before .args .w .now) in
+    let start = begun (c .before) in
+    let bs = start .args .t .now in
+    let rows : ℕ = length (start .args .w .now) in
     let done = all-read bs (at .r) (at .inv .0) (c .loop-test .left) in
     let part : ℕ → Type 0 = λ k. Part (table bs) rows k (at .w) (at .s) (at .curbs) (at .low) (at .high) (at .gain) in
     let all = subst part done (at .inv .1) in
-    let low : at .gain ≤ 67107840 = omega (arith, all .most, few-records bs (c .before .before .before .pre .0)) in (
+    let low : at .gain ≤ 67107840 = omega (arith, all .most, few-records bs (start .pre .0)) in (
       (record { holds = all .cells .0 .holds }, record { holds = all .cells .1 .holds }),
       (gathered (table bs) 3 2 (all .curbing .1), (all .entering, (all .gains, low))),
     )
@@ -288,4 +317,6 @@ lay-arcs-spec =
     loop-again
     same-length
     same-length-2
+    same-length-3
+    same-length-4
     returns)

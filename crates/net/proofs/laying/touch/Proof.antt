@@ -15,8 +15,8 @@ use Rattle.net.proofs.laying.touch.Tie as tie
 mul-low : tie.Need-mul-low
 mul-low c = search needs
 
-element-copy-out-low : tie.Need-element-copy-out-low
-element-copy-out-low c = search needs
+slice-read-low : tie.Need-slice-read-low
+slice-read-low c = search needs
 
 shl-low : tie.Need-shl-low
 shl-low c = search needs
@@ -24,14 +24,14 @@ shl-low c = search needs
 mul-low-2 : tie.Need-mul-low-2
 mul-low-2 c = search needs
 
-element-write-low : tie.Need-element-write-low
-element-write-low c = search needs
+slice-write-low : tie.Need-slice-write-low
+slice-write-low c = search needs
 
 mul-high : tie.Need-mul-high
 mul-high c = search needs
 
-element-copy-out-high : tie.Need-element-copy-out-high
-element-copy-out-high c = search needs
+slice-read-high : tie.Need-slice-read-high
+slice-read-high c = search needs
 
 shl-high : tie.Need-shl-high
 shl-high c = search needs
@@ -39,22 +39,28 @@ shl-high c = search needs
 mul-high-2 : tie.Need-mul-high-2
 mul-high-2 c = search needs
 
-element-write-high : tie.Need-element-write-high
-element-write-high c = search needs
+slice-write-high : tie.Need-slice-write-high
+slice-write-high c = search needs
 
 -- A word with k.
 gains : (s k : ℕ) → k < 64 → (j : ℕ) → bit (bitOr s (1 * 2 ^ k % 2 ^ 64)) j ≡ (bit s j || eqb k j)
 gains s k h j = ap (λ (x : ℕ). bit (bitOr s x) j) (one-shifted k h) ∙ bit-or s (2 ^ k) j ∙ rw (bit-one k j)
 
+same-length : tie.Need-same-length
+same-length c = search needs
+
 returns : tie.Need-returns
 returns c tb of r here g =
     let start = c .before .before in
-    reached-low tb of r _ _ g (start .args .t) (start .args .p) (start .pre .0) here (omega arith) _ (gains _ (start .args .p) (omega arith))
+    reached-low tb of r _ _ g (start .args .t) (start .args .p) (start .pre .0) here (omega arith) (start .pre .2) _ (gains _ (start .args .p) (omega arith))
+
+same-length-2 : tie.Need-same-length-2
+same-length-2 c = search needs
 
 returns-2 : tie.Need-returns-2
 returns-2 c tb of r here g =
     let start = c .before .before in
-    reached-high tb of r _ _ g (start .args .t) (start .args .p) (start .pre .0) here (omega arith) _
+    reached-high tb of r _ _ g (start .args .t) (start .args .p) (start .pre .0) here (omega arith) (start .pre .3) _
     (gains _ (start .args .p - 64) (omega (arith, start .pre .1)))
 
 pub touch-spec : {M : Type 1} → statement M
@@ -62,14 +68,16 @@ touch-spec =
     tie.close
     (tie.spec
     mul-low
-    element-copy-out-low
+    slice-read-low
     shl-low
     mul-low-2
-    element-write-low
+    slice-write-low
     mul-high
-    element-copy-out-high
+    slice-read-high
     shl-high
     mul-high-2
-    element-write-high
+    slice-write-high
+    same-length
     returns
+    same-length-2
     returns-2)
