@@ -140,23 +140,23 @@ row-on view f g rows p v l before e q = go (eqb p q) refl
             below false h = sym (le-ltb q (p + 1) (omega (arith, ltb-false q p h)))
 
 -- Rows that are all empty have nothing in any.
-pub none-set : (q : ℕ) → _≡_ {A = ℕ} (getD (replicate 128 0) q 0) 0
-none-set q = go (ltb q 128) refl
+pub none-set : (n q : ℕ) → _≡_ {A = ℕ} (getD (replicate n 0) q 0) 0
+none-set n q = go (ltb q n) refl
   where
-    go : (b : Bool) → ltb q 128 ≡ b → _≡_ {A = ℕ} (getD (replicate 128 0) q 0) 0
-    go true h = getD-replicate {A = ℕ} 128 q 0 0 (ltb-true q 128 h)
-    go false h = List·getD-eq-default (replicate 128 0) 0 {n = q} (rw (length-replicate {A = ℕ} 128 0) (ltb-false q 128 h))
+    go : (b : Bool) → ltb q n ≡ b → _≡_ {A = ℕ} (getD (replicate n 0) q 0) 0
+    go true h = getD-replicate {A = ℕ} n q 0 0 (ltb-true q n h)
+    go false h = List·getD-eq-default (replicate n 0) 0 {n = q} (rw (length-replicate {A = ℕ} n 0) (ltb-false q n h))
 
 -- Where it is told of every place who lacks tokens there, it is told of every place but one.
 pub but-one : {held curbs lacks : List ℕ} (q : ℕ) → Wanting held curbs lacks → Wanting-but q held curbs lacks
 but-one q wanting = record { size = wanting .size; same = λ p t h apart l. wanting .same p t h l }
 
 -- That one place is told of too.
-pub told-at : {held curbs lacks : List ℕ} (q back lack : ℕ) → q < 128 → length held ≡ 128
+pub told-at : {held curbs lacks : List ℕ} (q back lack : ℕ) → q < length held
     → ((t : ℕ) → bit lack t ≡ (bit back t && not (bit (getD curbs q 0) t)))
     → Wanting-but q held curbs lacks → Wanting (set held q back) curbs (set lacks q lack)
-told-at {held} {curbs} {lacks} q back lack low size is but =
-    record { size = length-set lacks q lack ∙ but .size; same = λ p t h l. go p t h l (eqb p q) refl }
+told-at {held} {curbs} {lacks} q back lack low is but =
+    record { size = length-set lacks q lack ∙ but .size ∙ sym (length-set held q back); same = λ p t h l. go p t h l (eqb p q) refl }
   where
     go : (p t : ℕ) → p < 128 → t < 64 → (b : Bool) → eqb p q ≡ b
         → bit (getD (set lacks q lack) p 0) t ≡ (bit (getD (set held q back) p 0) t && not (bit (getD curbs p 0) t))
@@ -164,7 +164,7 @@ told-at {held} {curbs} {lacks} q back lack low size is but =
         rw (
           eqb-true p q e,
           getD-set-same lacks q lack 0 (omega (arith, low, but .size)),
-          getD-set-same held q back 0 (omega (arith, low, size)),
+          getD-set-same held q back 0 low,
         )
         (is t)
     go p t h l false e =

@@ -58,19 +58,20 @@ pub record Spans (index : List ℕ) (w s : List (List ℕ)) (p held shown from u
   pub holds : (k : ℕ) → from ≤ k → k < upto → held ≡ held-by index w s k p
   pub shows : (k : ℕ) → from ≤ k → k < upto → shown ≡ shown-by index k p
 
--- The four rows have a place each for every place.
-abbrev pub Four : List ℕ → List ℕ → List ℕ → List ℕ → Type 0
-Four held shown from upto = (length held ≡ 128) × (length shown ≡ 128) × (length from ≡ 128) × (length upto ≡ 128)
+-- The first two of the four rows go as far as those of the weights, and past them nobody is held back and nothing shown; the other two have a place each for
+-- every place.
+abbrev pub Four : List (List ℕ) → List ℕ → List ℕ → List ℕ → List ℕ → Type 0
+Four w held shown from upto = (length held ≡ length w) × (length shown ≡ length w) × (length from ≡ 128) × (length upto ≡ 128)
 
 -- The four rows of each place span its tokens.
 pub record Levels (index : List ℕ) (w s : List (List ℕ)) (m held shown from upto : List ℕ) : Type 0 where
-  pub sizes : Four held shown from upto
+  pub sizes : Four w held shown from upto
   pub spans : (p : ℕ) → p < 128 → Spans index w s p (getD held p 0) (getD shown p 0) (getD from p 0) (getD upto p 0)
   pub inside : (p : ℕ) → p < 128 → (getD from p 0 ≤ getD m p 0) × (getD m p 0 < getD upto p 0)
 
 -- The rows of place p span so many tokens, and the others are as they were.
 pub record Moves-to (index : List ℕ) (w s : List (List ℕ)) (p tokens : ℕ) (held shown from upto held′ shown′ from′ upto′ : List ℕ) : Type 0 where
-  pub sizes : Four held′ shown′ from′ upto′
+  pub sizes : Four w held′ shown′ from′ upto′
   pub spans : Spans index w s p (getD held′ p 0) (getD shown′ p 0) (getD from′ p 0) (getD upto′ p 0)
   pub inside : (getD from′ p 0 ≤ tokens) × (tokens < getD upto′ p 0)
   pub others : (q : ℕ) → ¬ (q ≡ p)
@@ -78,10 +79,10 @@ pub record Moves-to (index : List ℕ) (w s : List (List ℕ)) (p tokens : ℕ) 
 
 -- Of those that each place holds back, who has no inhibitor arc from it: they lack tokens there.
 pub record Wanting (held curbs lacks : List ℕ) : Type 0 where
-  pub size : length lacks ≡ 128
+  pub size : length lacks ≡ length held
   pub same : (p t : ℕ) → p < 128 → t < 64 → bit (getD lacks p 0) t ≡ (bit (getD held p 0) t && not (bit (getD curbs p 0) t))
 
 -- The same of every place but q.
 pub record Wanting-but (q : ℕ) (held curbs lacks : List ℕ) : Type 0 where
-  pub size : length lacks ≡ 128
+  pub size : length lacks ≡ length held
   pub same : (p t : ℕ) → p < 128 → ¬ (p ≡ q) → t < 64 → bit (getD lacks p 0) t ≡ (bit (getD held p 0) t && not (bit (getD curbs p 0) t))

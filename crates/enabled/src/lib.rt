@@ -115,15 +115,15 @@ fn relevel(
     curbs: &[u64; 128],
     w: &[[u16; 64]],
     s: &[[u8; 64]],
-    held: &mut [u64; 128],
-    lacks: &mut [u64; 128],
-    shown: &mut [u64; 128],
+    held: &mut [u64],
+    lacks: &mut [u64],
+    shown: &mut [u64],
     from: &mut [u32; 128],
     upto: &mut [u32; 128],
 )
-    requires { ⌜ (p < 128) × (tokens < 2147483647) ⌝ }
+    requires { ⌜ (p < 128) × (tokens < 2147483647) × (p < length (now lacks)) ⌝ }
     requires { ⌜ Curbed (now index) (now s) (now curbs) × Weighty (now index) (now w) × (p < length (now w)) × (8 * p + 8 ≤ length (now index)) ⌝ }
-    requires { ⌜ Four (now held) (now shown) (now from) (now upto) ⌝ }
+    requires { ⌜ Four (now w) (now held) (now shown) (now from) (now upto) ⌝ }
     ensures { λ _. ⌜ Moves-to (now (index .entry)) (now (w .entry)) (now (s .entry)) p tokens (now (held .entry)) (now (shown .entry)) (now (from .entry)) (now (upto .entry)) (now (held .exit)) (now (shown .exit)) (now (from .exit)) (now (upto .exit)) ⌝ }
     ensures { λ _. ⌜ (Wanting-but p (now (held .entry)) (now (curbs .entry)) (now (lacks .entry)) → Wanting (now (held .exit)) (now (curbs .entry)) (now (lacks .exit))) ⌝ }
 {
@@ -145,15 +145,15 @@ pub fn shift(
     curbs: &[u64; 128],
     w: &[[u16; 64]],
     s: &[[u8; 64]],
-    held: &mut [u64; 128],
-    lacks: &mut [u64; 128],
-    shown: &mut [u64; 128],
+    held: &mut [u64],
+    lacks: &mut [u64],
+    shown: &mut [u64],
     from: &mut [u32; 128],
     upto: &mut [u32; 128],
 )
     requires { ⌜ (p < 128) × (tokens < 2147483647) ⌝ }
     requires { ⌜ Curbed (now index) (now s) (now curbs) × Weighty (now index) (now w) × (p < length (now w)) × (8 * p + 8 ≤ length (now index)) ⌝ }
-    requires { ⌜ Four (now held) (now shown) (now from) (now upto) ⌝ }
+    requires { ⌜ Four (now w) (now held) (now shown) (now from) (now upto) ⌝ }
     requires { ⌜ Spans (now index) (now w) (now s) p (getD (now held) p 0) (getD (now shown) p 0) (getD (now from) p 0) (getD (now upto) p 0) ⌝ }
     requires { ⌜ Wanting (now held) (now curbs) (now lacks) ⌝ }
     ensures { λ _. ⌜ Moves-to (now (index .entry)) (now (w .entry)) (now (s .entry)) p tokens (now (held .entry)) (now (shown .entry)) (now (from .entry)) (now (upto .entry)) (now (held .exit)) (now (shown .exit)) (now (from .exit)) (now (upto .exit)) ⌝ }
@@ -176,8 +176,8 @@ pub fn shift(
     }
 }
 
-// The five rows of each place for its tokens. They are lent empty, each level without an end; from n on there is neither an arc nor an action,
-// and neither w nor the index need have a row.
+// The five rows of each place for its tokens. They are lent empty, each level without an end, the first three as many as w has; from n on there is
+// neither an arc nor an action, and neither w nor the index need have a row.
 pub fn hold(
     m: &[u32; 128],
     index: &[u64],
@@ -185,13 +185,13 @@ pub fn hold(
     w: &[[u16; 64]],
     s: &[[u8; 64]],
     n: usize,
-    held: &mut [u64; 128],
-    lacks: &mut [u64; 128],
-    shown: &mut [u64; 128],
+    held: &mut [u64],
+    lacks: &mut [u64],
+    shown: &mut [u64],
     from: &mut [u32; 128],
     upto: &mut [u32; 128],
 )
-    requires { ⌜ (now held ≡ replicate 128 0) × (now shown ≡ replicate 128 0) × (now from ≡ replicate 128 0) × (now upto ≡ replicate 128 2147483647) × (now lacks ≡ replicate 128 0) ⌝ }
+    requires { ⌜ (now held ≡ replicate (length (now w)) 0) × (now shown ≡ replicate (length (now w)) 0) × (now from ≡ replicate 128 0) × (now upto ≡ replicate 128 2147483647) × (now lacks ≡ replicate (length (now w)) 0) ⌝ }
     requires { ⌜ Curbed (now index) (now s) (now curbs) × Weighty (now index) (now w) × (n ≤ length (now w)) × (8 * n ≤ length (now index)) ⌝ }
     requires { ⌜ Empty-from (now index) n ⌝ }
     requires { ⌜ ((p : ℕ) → p < 128 → getD (now m) p 0 < 2147483647) ⌝ }
@@ -212,8 +212,8 @@ pub struct Seen {
 }
 
 // The same, of the first n places, by their rows.
-pub fn gather(held: &[u64; 128], shown: &[u64; 128], n: usize) -> Seen
-    requires { ⌜ n ≤ 128 ⌝ }
+pub fn gather(held: &[u64], shown: &[u64], n: usize) -> Seen
+    requires { ⌜ (n ≤ length (now held)) × (n ≤ length (now shown)) ⌝ }
     ensures { λ x. ⌜ ((t : ℕ) → bit (x .held) t ≡ some n (λ p. bit (getD (now (held .entry)) p 0) t)) ⌝ }
     ensures { λ x. ⌜ ((k : ℕ) → bit (x .shown) k ≡ some n (λ p. bit (getD (now (shown .entry)) p 0) k)) ⌝ }
 {

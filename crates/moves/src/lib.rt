@@ -42,8 +42,15 @@ fn byte(x: u8) -> u32
     x as u32
 }
 
-// A link as a number that counts.
+// A link as a number that counts: where a chain begins, and where it goes on. The two are numbers of different width, so that the compiler does not widen
+// a link anew for each arc of a walk.
 fn count(x: u16) -> usize
+    ensures { λ r. ⌜ r ≡ x ⌝ }
+{
+    x as usize
+}
+
+fn onward(x: u32) -> usize
     ensures { λ r. ⌜ r ≡ x ⌝ }
 {
     x as usize
@@ -75,19 +82,20 @@ fn add_arc(t: &[u8], moved: &mut [u32; 128], r: usize)
 }
 
 // Adds at each place what transition u moves there over its arcs of one sort: `sort` chooses the row of `heads` in which their chain begins, and
-// `next` goes on from arc to arc. The answer is all, and who lacks tokens at these places.
+// `next` goes on from arc to arc. The answer is all, and who lacks tokens at these places; there is a row of them for every place of the table.
 fn follow(
     t: &[u8],
     moved: &mut [u32; 128],
-    lacks: &[u64; 128],
+    lacks: &[u64],
     heads: &[u16; 256],
-    next: &[u16],
+    next: &[u32],
     u: usize,
     sort: u8,
     all: u64,
 ) -> u64
     requires { ⌜ check (now t) ≡ accepted 0 ⌝ }
     requires { ⌜ Chained (table (now t)) (now heads) (now next) × (table (now t) .records ≤ length (now next)) ⌝ }
+    requires { ⌜ ((r : ℕ) → r < table (now t) .records → table (now t) .one r < length (now lacks)) ⌝ }
     requires { ⌜ (u < 64) × (sort < 4) × Fits (table (now t)) sort u (now moved) ⌝ }
     ensures { λ _. ⌜ Followed (table (now (t .entry))) sort u (now (moved .entry)) (now (moved .exit)) ⌝ }
     ensures { λ r. ⌜ ((j : ℕ) → bit r j ≡ (bit all j || some 128 (λ p. moved-at-all (table (now (t .entry))) sort (eqb u) p && bit (getD (now (lacks .entry)) p 0) j))) ⌝ }
@@ -99,7 +107,7 @@ fn follow(
         let p = place(t, r);
         add_arc(t, moved, r);
         lack = sets::union(lack, lacks[p]);
-        link = count(next[r]);
+        link = onward(next[r]);
     }
     lack
 }
@@ -117,13 +125,14 @@ pub fn tally(
     taken: &mut [u32; 128],
     put: &mut [u32; 128],
     set: u64,
-    lacks: &[u64; 128],
+    lacks: &[u64],
     heads: &[u16; 256],
-    next: &[u16],
+    next: &[u32],
     index: &[u64],
 ) -> Moved
     requires { ⌜ check (now t) ≡ accepted 0 ⌝ }
     requires { ⌜ Chained (table (now t)) (now heads) (now next) × (table (now t) .records ≤ length (now next)) ⌝ }
+    requires { ⌜ ((r : ℕ) → r < table (now t) .records → table (now t) .one r < length (now lacks)) ⌝ }
     requires { ⌜ Unmoved (now taken) × Unmoved (now put) ⌝ }
     requires { ⌜ ((u : ℕ) → bit set u ≡ true → 8 * u + 7 < length (now index)) ⌝ }
     ensures { λ x. ⌜ Tallied (table (now (t .entry))) set (now (lacks .entry)) (now (index .entry)) (now (taken .exit)) (now (put .exit)) x ⌝ }

@@ -34,7 +34,7 @@ spans-plain {index} {curbs} {held} {lacks} {w} {s} {p} curbed wanting spans h k 
 
 module _ (index curbs : List ℕ) (w s : List (List ℕ)) (m left : List ℕ) where
   -- So far no place is done.
-  pub none-tended : (all : ℕ) (held shown from upto : List ℕ) (done : ℕ → Bool) → Four held shown from upto → ((p : ℕ) → done p ≡ false)
+  pub none-tended : (all : ℕ) (held shown from upto : List ℕ) (done : ℕ → Bool) → Four w held shown from upto → ((p : ℕ) → done p ≡ false)
       → Tended done index curbs w s m left all held shown from upto all held shown from upto
   none-tended all held shown from upto done sizes none =
       record {

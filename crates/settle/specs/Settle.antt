@@ -63,7 +63,7 @@ fallen index curbs w left from t p = ltb (getD left p 0) (getD from p 0) && (pla
 -- rest is below the level they had.
 pub record Tended (done : ℕ → Bool) (index curbs : List ℕ) (w s : List (List ℕ)) (m left : List ℕ) (all : ℕ) (held shown from upto : List ℕ) (r : ℕ)
     (held′ shown′ from′ upto′ : List ℕ) : Type 0 where
-  pub sizes : Four held′ shown′ from′ upto′
+  pub sizes : Four w held′ shown′ from′ upto′
   pub spans : (p : ℕ) → p < 128 → done p ≡ true → Spans index w s p (getD held′ p 0) (getD shown′ p 0) (getD from′ p 0) (getD upto′ p 0)
   pub inside : (p : ℕ) → p < 128 → done p ≡ true → (getD from′ p 0 ≤ getD m p 0) × (getD m p 0 < getD upto′ p 0)
   pub others : (p : ℕ) → done p ≡ false

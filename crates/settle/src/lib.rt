@@ -105,13 +105,13 @@ fn starved(
     all: u64,
     rest: u32,
     p: usize,
-    lacks: &[u64; 128],
+    lacks: &[u64],
     from: &[u32; 128],
     index: &[u64],
     curbs: &[u64; 128],
     w: &[[u16; 64]],
 ) -> u64
-    requires { ⌜ (p < 128) × (rest ≤ 65535) × (p < length (now w)) × (8 * p + 8 ≤ length (now index)) ⌝ }
+    requires { ⌜ (p < 128) × (rest ≤ 65535) × (p < length (now w)) × (p < length (now lacks)) × (8 * p + 8 ≤ length (now index)) ⌝ }
     requires { ⌜ ((t : ℕ) → t < 64 → plain (now index) (now curbs) p t ≡ true → 1 ≤ cell (now w) p t) ⌝ }
     requires { ⌜ (getD (now from) p 0 ≤ rest → (t : ℕ) → t < 64 → bit (getD (now lacks) p 0) t ≡ (plain (now index) (now curbs) p t && ltb rest (cell (now w) p t))) ⌝ }
     ensures { λ r. ⌜ ((t : ℕ) → t < 64 → bit r t ≡ (bit all t || (plain (now (index .entry)) (now (curbs .entry)) p t && ltb rest (cell (now (w .entry)) p t)))) ⌝ }
@@ -131,9 +131,9 @@ fn tend(
     rest: u32,
     new: u32,
     all: u64,
-    held: &mut [u64; 128],
-    lacks: &mut [u64; 128],
-    shown: &mut [u64; 128],
+    held: &mut [u64],
+    lacks: &mut [u64],
+    shown: &mut [u64],
     from: &mut [u32; 128],
     upto: &mut [u32; 128],
     index: &[u64],
@@ -143,7 +143,7 @@ fn tend(
 ) -> u64
     requires { ⌜ (p < 128) × (rest ≤ 65535) × (rest ≤ new) × (new < 2147483647) ⌝ }
     requires { ⌜ Curbed (now index) (now s) (now curbs) × Weighty (now index) (now w) × (p < length (now w)) × (8 * p + 8 ≤ length (now index)) ⌝ }
-    requires { ⌜ Four (now held) (now shown) (now from) (now upto) ⌝ }
+    requires { ⌜ Four (now w) (now held) (now shown) (now from) (now upto) ⌝ }
     requires { ⌜ Spans (now index) (now w) (now s) p (getD (now held) p 0) (getD (now shown) p 0) (getD (now from) p 0) (getD (now upto) p 0) ⌝ }
     requires { ⌜ Wanting (now held) (now curbs) (now lacks) ⌝ }
     ensures { λ r. ⌜ ((t : ℕ) → t < 64 → bit r t ≡ (bit all t || (ltb rest (getD (now (from .entry)) p 0) && (plain (now (index .entry)) (now (curbs .entry)) p t && ltb rest (cell (now (w .entry)) p t))))) ⌝ }
@@ -166,9 +166,9 @@ fn tend_eight(
     m: &[u32; 128],
     left: &[u32; 128],
     marks: &[u8; 128],
-    held: &mut [u64; 128],
-    lacks: &mut [u64; 128],
-    shown: &mut [u64; 128],
+    held: &mut [u64],
+    lacks: &mut [u64],
+    shown: &mut [u64],
     from: &mut [u32; 128],
     upto: &mut [u32; 128],
     index: &[u64],
@@ -179,7 +179,7 @@ fn tend_eight(
     requires { ⌜ (e < 16) × ((p : ℕ) → p < 8 * e + 8 → getD (now marks) p 0 ≤ 1) ⌝ }
     requires { ⌜ ((p : ℕ) → p < 8 * e + 8 → (getD (now left) p 0 ≤ 65535) × (getD (now left) p 0 ≤ getD (now m) p 0) × (getD (now m) p 0 < 2147483647)) ⌝ }
     requires { ⌜ Curbed (now index) (now s) (now curbs) × Weighty (now index) (now w) × (8 * e + 8 ≤ length (now w)) × (8 * (8 * e + 8) ≤ length (now index)) ⌝ }
-    requires { ⌜ Four (now held) (now shown) (now from) (now upto) ⌝ }
+    requires { ⌜ Four (now w) (now held) (now shown) (now from) (now upto) ⌝ }
     requires { ⌜ ((p : ℕ) → p < 128 → Spans (now index) (now w) (now s) p (getD (now held) p 0) (getD (now shown) p 0) (getD (now from) p 0) (getD (now upto) p 0)) ⌝ }
     requires { ⌜ Wanting (now held) (now curbs) (now lacks) ⌝ }
     ensures { λ r. ⌜ Tended (marked-of (now (marks .entry)) e) (now (index .entry)) (now (curbs .entry)) (now (w .entry)) (now (s .entry)) (now (m .entry)) (now (left .entry)) all (now (held .entry)) (now (shown .entry)) (now (from .entry)) (now (upto .entry)) r (now (held .exit)) (now (shown .exit)) (now (from .exit)) (now (upto .exit)) ⌝ }
@@ -215,9 +215,9 @@ fn tend_eight(
 // neither w nor the index need have a row; `left` and `marks` are lent to work with.
 pub fn settle(
     m: &mut [u32; 128],
-    held: &mut [u64; 128],
-    lacks: &mut [u64; 128],
-    shown: &mut [u64; 128],
+    held: &mut [u64],
+    lacks: &mut [u64],
+    shown: &mut [u64],
     from: &mut [u32; 128],
     upto: &mut [u32; 128],
     taken: &mut [u32; 128],

@@ -36,8 +36,8 @@ loop-holds c = (omega arith, bit-zero, bit-zero)
 mul-union : tie.Need-mul-union Inv-loop μ-loop
 mul-union c = search needs
 
-element-copy-out-union : tie.Need-element-copy-out-union Inv-loop μ-loop
-element-copy-out-union c = search needs
+shared-slice-read-union : tie.Need-shared-slice-read-union Inv-loop μ-loop
+shared-slice-read-union c = search needs
 
 union-requires : tie.Need-union-requires Inv-loop μ-loop
 union-requires c κs = search needs
@@ -45,8 +45,8 @@ union-requires c κs = search needs
 mul-union-2 : tie.Need-mul-union-2 Inv-loop μ-loop
 mul-union-2 c = search needs
 
-element-copy-out-union-2 : tie.Need-element-copy-out-union-2 Inv-loop μ-loop
-element-copy-out-union-2 c = search needs
+shared-slice-read-union-2 : tie.Need-shared-slice-read-union-2 Inv-loop μ-loop
+shared-slice-read-union-2 c = search needs
 
 union-requires-2 : tie.Need-union-requires-2 Inv-loop μ-loop
 union-requires-2 c κs = search needs
@@ -61,7 +61,7 @@ loop-again : tie.Need-loop-again Inv-loop μ-loop
 loop-again c =
     let join = c .before .before in
     let at = join .before .before .before .loop in
-    let a = join .before .before .before .before .args in (
+    let a = join .before .before .before .before .before .before .args in (
       omega arith,
       λ t. one-more (a .held .now) t (at .p) (at .back) (join .union .result) (at .inv .1 t) (join .union .ensures t),
       λ t. one-more (a .shown .now) t (at .p) (at .active) (c .union2 .result) (at .inv .2 t) (c .union2 .ensures t),
@@ -70,7 +70,7 @@ loop-again c =
 returns : tie.Need-returns Inv-loop μ-loop
 returns c =
     let at = c .before .loop in
-    let a = c .before .before .args in
+    let a = c .before .before .before .before .args in
     let all : at .p ≡ a .n = omega (arith, c .loop-test .left, at .inv .0) in
     (λ t. at .inv .1 t ∙ up-to (a .held .now) t all, λ t. at .inv .2 t ∙ up-to (a .shown .now) t all)
   where
@@ -85,10 +85,10 @@ gather-spec =
     μ-loop
     loop-holds
     mul-union
-    element-copy-out-union
+    shared-slice-read-union
     union-requires
     mul-union-2
-    element-copy-out-union-2
+    shared-slice-read-union-2
     union-requires-2
     add-p
     loop-less

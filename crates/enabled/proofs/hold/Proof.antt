@@ -2,16 +2,16 @@
 -- tokens there.
 use mathlib.Core.Bool.{Bool, true, false}
 use mathlib.Core.List.{List}
-use mathlib.Core.Path.{_≡_, refl, ap, _∙_}
+use mathlib.Core.Path.{_≡_, refl, sym, ap, _∙_}
 use Prim.Native.Nat.{ℕ, _+_, _-_, _≤_, _<_}
 use native.Mathlib.Omega.{arith}
 use lib.Dec.{ltb, eqb}
-use lib.ListN.{length, getD, replicate, getD-replicate}
+use lib.ListN.{length, getD, replicate, length-replicate, getD-replicate}
 use borrow.Author.Needs.{needs}
 use borrow.Author.Tests.{eqb-true, eqb-false, ltb-true, ltb-false}
 use Rattle.sets.proofs.Bits.{bit-zero}
 use Rattle.enabled.specs.Held.{Empty-from, Spans, Four, Moves-to, Levels, Wanting}
-use Rattle.enabled.proofs.Held.{none-spans, but-one}
+use Rattle.enabled.proofs.Held.{none-spans, none-set, but-one}
 use Rattle.enabled.proofs.hold.Statement.{statement}
 use Rattle.enabled.proofs.hold.Tie as tie
 
@@ -43,7 +43,7 @@ module _ {index : List ℕ} {w s : List (List ℕ)} (m : List ℕ) {held shown f
       rw (o .0, o .1, o .2, o .3) (before q (omega (arith, l)) h)
 
 -- With all places passed, and neither arc nor action from n on, the rows span the tokens.
-all-spanned : (index : List ℕ) (w s : List (List ℕ)) (m held shown from upto : List ℕ) (n p : ℕ) → Empty-from index n → n ≤ p → Four held shown from upto
+all-spanned : (index : List ℕ) (w s : List (List ℕ)) (m held shown from upto : List ℕ) (n p : ℕ) → Empty-from index n → n ≤ p → Four w held shown from upto
     → ((q : ℕ) → q < 128 → getD m q 0 < 2147483647)
     → ((q : ℕ) → q < p → Spanned index w s m held shown from upto q) → ((q : ℕ) → p ≤ q → q < 128 → Lent held shown from upto q)
     → Levels index w s m held shown from upto
@@ -60,24 +60,30 @@ all-spanned index w s m held shown from upto n p none l four few passed to-come 
 
 abbrev Inv-loop : tie.InvT-loop
 Inv-loop m index curbs w s n held₀ lacks₀ shown₀ from₀ upto₀ p₀ held lacks shown from upto p =
-    (p ≤ n) × Four held shown from upto × ((q : ℕ) → q < p → Spanned index w s m held shown from upto q)
+    (p ≤ n) × Four w held shown from upto × ((q : ℕ) → q < p → Spanned index w s m held shown from upto q)
     × ((q : ℕ) → p ≤ q → q < 128 → Lent held shown from upto q) × Wanting held curbs lacks
 
 abbrev μ-loop : tie.MeasureT-loop
 μ-loop m index curbs w s n held₀ lacks₀ shown₀ from₀ upto₀ p₀ held lacks shown from upto p = n - p
 
+-- Rows that were lent are as many as were lent.
+size : {rows : List ℕ} {n : ℕ} (k : ℕ) → rows ≡ replicate n k → length rows ≡ n
+size {rows} {n} k e = ap length e ∙ length-replicate {A = ℕ} n k
+
 loop-holds : tie.Need-loop-holds Inv-loop μ-loop
 loop-holds c =
-    let lent = c .before .pre .0 in (
+    let lent = c .before .before .before .before .pre .0 in (
       omega arith,
-      (ap length (lent .0), ap length (lent .1), ap length (lent .2), ap length (lent .3)),
+      (size 0 (lent .0), size 0 (lent .1), size 0 (lent .2), size 2147483647 (lent .3)),
       λ q h. absurd (omega (arith, h)),
-      λ q l h. (row (lent .0) q h, row (lent .1) q h, row (lent .2) q h, row (lent .3) q h),
-      record { size = ap length (lent .4); same = λ q t h l. rw (row (lent .4) q h, row (lent .0) q h, bit-zero t) },
+      λ q l h. (
+        rw (lent .0, none-set),
+        rw (lent .1, none-set),
+        rw (lent .2, none-set),
+        rw (lent .3) (getD-replicate {A = ℕ} 128 q 2147483647 0 h),
+      ),
+      record { size = ap length (lent .4 ∙ sym (lent .0)); same = λ q t h l. rw (lent .4, lent .0, none-set, bit-zero t) },
     )
-  where
-    row : {rows : List ℕ} {k : ℕ} → rows ≡ replicate 128 k → (q : ℕ) → q < 128 → getD rows q 0 ≡ k
-    row {rows} {k} e q h = ap (λ (l : List ℕ). getD l q 0) e ∙ getD-replicate {A = ℕ} 128 q k 0 h
 
 mul-relevel : tie.Need-mul-relevel Inv-loop μ-loop
 mul-relevel c = search needs
@@ -88,11 +94,13 @@ element-copy-out-relevel c = search needs
 relevel-requires : tie.Need-relevel-requires Inv-loop μ-loop
 relevel-requires c κs =
     let at = c .before .before .before .before .before .before .before .loop in
-    let start = c .before .before .before .before .before .before .before .before .before in
+    let start = c .before .before .before .before .before .before .before .before .before .before .before .before in
     let next : at .p < start .args .n = c .before .before .before .before .before .before .loop-test .taken in
     let place : at .p < 128 = omega (arith, next, start .pre .1 .1 .0 .within) in
-    let tables = start .pre .1 .0 in
-    ((place, start .pre .1 .1 .1 (at .p) place), ((tables .0, tables .1, omega (arith, next, tables .2), omega (arith, next, tables .3)), at .inv .1))
+    let tables = start .pre .1 .0 in (
+      (place, start .pre .1 .1 .1 (at .p) place, omega (arith, next, tables .2, at .inv .1 .0, at .inv .4 .size)),
+      ((tables .0, tables .1, omega (arith, next, tables .2), omega (arith, next, tables .3)), at .inv .1),
+    )
 
 add-p : tie.Need-add-p Inv-loop μ-loop
 add-p c = search needs
@@ -102,15 +110,28 @@ loop-less c = search needs
 
 loop-again : tie.Need-loop-again Inv-loop μ-loop
 loop-again c =
-    let at = c .before .before .before .before .before .before .before .before .loop in
-    let m = c .before .before .before .before .before .before .before .before .before .before .args .m .now in
-    let moves = c .relevel .ensures .0 in
-    (omega arith, moves .sizes, passed m moves (at .inv .2), to-come m moves (at .inv .3), c .relevel .ensures .1 (but-one _ (at .inv .4)))
+    let called = c .before .before .before .before .before .before in
+    let at = called .before .before .before .before .before .before .before .before .loop in
+    let m = called .before .before .before .before .before .before .before .before .before .before .before .before .before .args .m .now in
+    let moves = called .relevel .ensures .0 in
+    (omega arith, moves .sizes, passed m moves (at .inv .2), to-come m moves (at .inv .3), called .relevel .ensures .1 (but-one _ (at .inv .4)))
+
+-- The first three rows go as far as w, as they did when they were lent.
+same-length : tie.Need-same-length Inv-loop μ-loop
+same-length c = c .before .loop .inv .1 .0 ∙ sym (size 0 (c .before .before .before .before .before .before .pre .0 .0))
+
+same-length-2 : tie.Need-same-length-2 Inv-loop μ-loop
+same-length-2 c =
+    let inv = c .before .loop .inv in
+    inv .4 .size ∙ inv .1 .0 ∙ sym (size 0 (c .before .before .before .before .before .before .pre .0 .4))
+
+same-length-3 : tie.Need-same-length-3 Inv-loop μ-loop
+same-length-3 c = c .before .loop .inv .1 .1 ∙ sym (size 0 (c .before .before .before .before .before .before .pre .0 .1))
 
 returns : tie.Need-returns Inv-loop μ-loop
 returns c =
     let at = c .before .loop in
-    let start = c .before .before .before in (
+    let start = c .before .before .before .before .before .before in (
       all-spanned _ _ _ (start .args .m .now) _ _ _ _ _ (at .p) (start .pre .1 .1 .0) (c .loop-test .left) (at .inv .1) (start .pre .1 .1 .1) (at .inv .2) (at .inv .3),
       at .inv .4,
     )
@@ -128,4 +149,7 @@ hold-spec =
     add-p
     loop-less
     loop-again
+    same-length
+    same-length-2
+    same-length-3
     returns)

@@ -1,8 +1,8 @@
 -- Each of the five rows is written once, at place p.
 use mathlib.Core.Path.{sym, ap, _∙_}
-use Prim.Native.Nat.{_+_, _*_}
+use Prim.Native.Nat.{_+_, _*_, _<_}
 use native.Mathlib.Omega.{arith}
-use lib.ListN.{getD, length-set}
+use lib.ListN.{length, getD, length-set}
 use lib.Seq.{getD-set-same, getD-set-other}
 use mathlib.Core.Bool.{Bool, cond}
 use borrow.Author.Needs.{needs}
@@ -30,7 +30,7 @@ shared-slice-element-level-of c = search needs
 
 level-of-requires : tie.Need-level-of-requires
 level-of-requires c κs =
-    let start = c .before .before .before in
+    let start = c .before .before .before .before .before .before in
     (start .pre .0 .1, λ t h e. start .pre .1 .0 .1 .least (start .args .p) t (start .pre .0 .0) h e)
 
 mul-less : tie.Need-mul-less
@@ -45,8 +45,8 @@ less-requires c κs = search needs
 mul-lacks : tie.Need-mul-lacks
 mul-lacks c = search needs
 
-element-write-lacks : tie.Need-element-write-lacks
-element-write-lacks c = search needs
+slice-write-lacks : tie.Need-slice-write-lacks
+slice-write-lacks c = search needs
 
 mul-less-2 : tie.Need-mul-less-2
 mul-less-2 c = search needs
@@ -63,8 +63,8 @@ union-requires c κs = search needs
 mul-held : tie.Need-mul-held
 mul-held c = search needs
 
-element-write-held : tie.Need-element-write-held
-element-write-held c = search needs
+slice-write-held : tie.Need-slice-write-held
+slice-write-held c = search needs
 
 mul-shows : tie.Need-mul-shows
 mul-shows c = search needs
@@ -84,8 +84,8 @@ shows-requires c κs = search needs
 mul-shown : tie.Need-mul-shown
 mul-shown c = search needs
 
-element-write-shown : tie.Need-element-write-shown
-element-write-shown c = search needs
+slice-write-shown : tie.Need-slice-write-shown
+slice-write-shown c = search needs
 
 mul-from : tie.Need-mul-from
 mul-from c = search needs
@@ -99,18 +99,28 @@ mul-upto c = search needs
 element-write-upto : tie.Need-element-write-upto
 element-write-upto c = search needs
 
+same-length : tie.Need-same-length
+same-length c = search needs
+
+same-length-2 : tie.Need-same-length-2
+same-length-2 c = search needs
+
+same-length-3 : tie.Need-same-length-3
+same-length-3 c = search needs
+
 returns : tie.Need-returns
 returns c =
     let joins = c .before .before in
     let lacking = joins .before .before .before in
     let level-of = lacking .before .before in
-    let start = level-of .before .before .before .before in
+    let start = level-of .before .before .before .before .before .before .before in
     let a = start .args in
     let four = start .pre .1 .1 in
     let x = level-of .level-of .ensures in
     let place = start .pre .0 .0 in
-    let here-held = getD-set-same (a .held .now) (a .p) (joins .union .result) 0 (omega (arith, four .0)) in
-    let here-shown = getD-set-same (a .shown .now) (a .p) (c .shows .result) 0 (omega (arith, four .1)) in
+    let row : a .p < length (a .held .now) = omega (arith, four .0, start .pre .1 .0 .2) in
+    let here-held = getD-set-same (a .held .now) (a .p) (joins .union .result) 0 row in
+    let here-shown = getD-set-same (a .shown .now) (a .p) (c .shows .result) 0 (omega (arith, four .0, four .1)) in
     let here-from = getD-set-same (a .from .now) (a .p) (level-of .level-of .result .from) 0 (omega (arith, four .2)) in
     let here-upto = getD-set-same (a .upto .now) (a .p) (level-of .level-of .result .upto) 0 (omega (arith, four .3)) in (
       record {
@@ -136,7 +146,7 @@ returns c =
           getD-set-other (a .upto .now) (a .p) q _ 0 apart,
         );
       },
-      told-at (a .p) (joins .union .result) (lacking .less .result) place (four .0)
+      told-at (a .p) (joins .union .result) (lacking .less .result) row
           (short-lack (level-of .level-of .result .short) _ _ _ (lacking .less .ensures) (λ t. joins .union .ensures t ∙ rw (joins .before .less2 .ensures t))),
     )
 
@@ -155,22 +165,25 @@ relevel-spec =
     element-copy-out-less
     less-requires
     mul-lacks
-    element-write-lacks
+    slice-write-lacks
     mul-less-2
     element-copy-out-less-2
     less-requires-2
     union-requires
     mul-held
-    element-write-held
+    slice-write-held
     mul-shows
     add-shows
     mul-shows-2
     shared-slice-read-shows
     shows-requires
     mul-shown
-    element-write-shown
+    slice-write-shown
     mul-from
     element-write-from
     mul-upto
     element-write-upto
+    same-length
+    same-length-2
+    same-length-3
     returns)

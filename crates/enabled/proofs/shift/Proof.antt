@@ -2,6 +2,7 @@
 use mathlib.Core.Bool.{Bool, true, false, _||_}
 use mathlib.Core.Path.{_≡_, refl, sym, _∙_}
 use Prim.Native.Nat.{ℕ, _≤_, _<_}
+use native.Mathlib.Omega.{arith}
 use lib.Dec.{leb, ltb}
 use borrow.Author.Needs.{needs}
 use borrow.Author.Tests.{ltb-false, leb-false}
@@ -27,17 +28,29 @@ outside-requires c κs = search needs
 
 relevel-requires : tie.Need-relevel-requires
 relevel-requires c κs =
-    let start = c .before .before .before .before .before .before .before .before .before .before in
-    (start .pre .0, (start .pre .1 .0, start .pre .1 .1 .0))
+    let start = c .before .before .before .before .before .before .before .before .before .before .before .before .before in
+    let tables = start .pre .1 .0 in
+    let four = start .pre .1 .1 .0 in
+    ((start .pre .0 .0, start .pre .0 .1, omega (arith, tables .2, four .0, start .pre .1 .1 .1 .1 .size)), (tables, four))
+
+same-length : tie.Need-same-length
+same-length c = search needs
+
+same-length-2 : tie.Need-same-length-2
+same-length-2 c = search needs
+
+same-length-3 : tie.Need-same-length-3
+same-length-3 c = search needs
 
 returns : tie.Need-returns
 returns c =
-    let start = c .before .before .before .before .before .before .before .before .before .before .before in
-    (c .relevel .ensures .0, c .relevel .ensures .1 (but-one _ (start .pre .1 .1 .1 .1)))
+    let called = c .before .before .before .before .before .before in
+    let start = called .before .before .before .before .before .before .before .before .before .before .before .before .before .before in
+    (called .relevel .ensures .0, called .relevel .ensures .1 (but-one _ (start .pre .1 .1 .1 .1)))
 
 returns-2 : tie.Need-returns-2
 returns-2 c =
-    let start = c .before .before .before .before .before in (
+    let start = c .before .before .before .before .before .before .before .before in (
       record {
         sizes = start .pre .1 .1 .0;
         spans = start .pre .1 .1 .1 .0;
@@ -64,5 +77,8 @@ shift-spec =
     element-copy-out-outside-2
     outside-requires
     relevel-requires
+    same-length
+    same-length-2
+    same-length-3
     returns
     returns-2)

@@ -48,12 +48,12 @@ wide-requires : tie.Need-wide-requires Inv-loop μ-loop
 wide-requires c κs = search needs
 
 abbrev started : tie.After-wide Inv-loop μ-loop → tie.Start Inv-loop μ-loop
-started c = c .before .before .before
+started c = c .before .before .before .before
 
 -- The row of the sort has a place for u.
 in-row : (c : tie.After-wide Inv-loop μ-loop) → 64 * c .wide .result + started c .args .u < 256
 in-row c =
-    let pre = started c .pre .1 .1 in
+    let pre = started c .pre .1 .1 .1 in
     omega (arith, c .wide .ensures, pre .0, pre .1)
 
 mul-count : tie.Need-mul-count Inv-loop μ-loop
@@ -79,7 +79,7 @@ loop-holds c =
     let start = started row in
     let a = start .args in
     let tb : Table = table (a .t .now) in
-    let known = start .pre .1 .1 in
+    let known = start .pre .1 .1 .1 in
     let first : c .count .result ≡ link (tb .records) (arc-of tb (a .sort) (a .u)) =
     c .count .ensures ∙ ap (λ (s : ℕ). getD (a .heads .now) (64 * s + a .u) 0) (row .wide .ensures)
     ∙ start .pre .1 .0 .0 .begins (a .sort) (a .u) (known .1) (known .0) in
@@ -154,7 +154,7 @@ add-arc-requires c κs =
     let tb : Table = table (a .t .now) in
     let o = here in-loop in
     room (a .t .now) (start .pre .0) (a .sort) (goal tb (a .sort) (a .u) (a .moved .now)) (pending tb (a .u) (at .link)) (at .moved) (at .inv .1)
-    (start .pre .1 .1 .2 .fits) (at .link - 1) (o .inside) (o .sort-is)
+    (start .pre .1 .1 .1 .2 .fits) (at .link - 1) (o .inside) (o .sort-is)
     (rw (o .two-is, eq-eqb (a .u) (a .u) refl) (lt-ltb (at .link - 1) (at .link) (omega (arith, o .succ))))
 
 -- The place that is asked for is one of 128.
@@ -164,8 +164,12 @@ placed c = omega (arith, c .place .ensures, near (c .before))
 mul-union : tie.Need-mul-union Inv-loop μ-loop
 mul-union c = omega (arith, placed (c .before .before))
 
-element-copy-out-union : tie.Need-element-copy-out-union Inv-loop μ-loop
-element-copy-out-union c = placed (c .before .before)
+-- And it has a row of those that lack tokens there.
+shared-slice-read-union : tie.Need-shared-slice-read-union Inv-loop μ-loop
+shared-slice-read-union c =
+    let placing = c .before .before .before in
+    let in-loop = placing .before in
+    omega (arith, placing .place .ensures, begun in-loop .pre .1 .1 .0 (in-loop .before .loop .link - 1) (here in-loop .inside))
 
 union-requires : tie.Need-union-requires Inv-loop μ-loop
 union-requires c κs = search needs
@@ -174,16 +178,16 @@ union-requires c κs = search needs
 abbrev asked : tie.After-union Inv-loop μ-loop → tie.After-place Inv-loop μ-loop
 asked c = c .before .before .before .before
 
-mul-count-3 : tie.Need-mul-count-3 Inv-loop μ-loop
-mul-count-3 c = omega (arith, low (asked c .before))
+mul-onward : tie.Need-mul-onward Inv-loop μ-loop
+mul-onward c = omega (arith, low (asked c .before))
 
-shared-slice-read-count : tie.Need-shared-slice-read-count Inv-loop μ-loop
-shared-slice-read-count c =
+shared-slice-read-onward : tie.Need-shared-slice-read-onward Inv-loop μ-loop
+shared-slice-read-onward c =
     let in-loop = asked (c .before) .before in
     omega (arith, here in-loop .inside, begun in-loop .pre .1 .0 .1)
 
-count-requires-2 : tie.Need-count-requires-2 Inv-loop μ-loop
-count-requires-2 c κs = search needs
+onward-requires : tie.Need-onward-requires Inv-loop μ-loop
+onward-requires c κs = search needs
 
 -- The union tells who lacks tokens at the place of this arc.
 tells : (c : tie.After-union Inv-loop μ-loop)
@@ -203,10 +207,10 @@ tells c j =
     ∙ sym (somewhere-one (table (a .t .now)) (a .sort) g (at .link - 1) (o .inside) (o .sort-is) (near in-loop)))
 
 -- The chain goes on with the arc of u before it.
-next-link : (c : tie.After-count2 Inv-loop μ-loop)
+next-link : (c : tie.After-onward Inv-loop μ-loop)
     → let in-loop = asked (c .before .before) .before in
     let a = begun in-loop .args in
-    c .count2 .result ≡ link (in-loop .before .loop .link - 1) (arc-of (table (a .t .now)) (a .sort) (a .u))
+    c .onward .result ≡ link (in-loop .before .loop .link - 1) (arc-of (table (a .t .now)) (a .sort) (a .u))
 next-link c =
     let in-loop = asked (c .before .before) .before in
     let start = begun in-loop in
@@ -214,7 +218,7 @@ next-link c =
     let tb : Table = table (a .t .now) in
     let r : ℕ = in-loop .before .loop .link - 1 in
     let o = here in-loop in
-    c .count2 .ensures
+    c .onward .ensures
     ∙ start .pre .1 .0 .0 .goes-on r (o .inside) (eqb-true _ _ (and-left (is tb 3 r) (eqb (tb .sort r) (a .sort)) (o .sort-is)))
     ∙ ap₂ (λ (sort u : ℕ). link r (arc-of tb sort u)) (eqb-true _ _ (and-right (is tb 3 r) (eqb (tb .sort r) (a .sort)) (o .sort-is))) (o .two-is)
 
@@ -235,10 +239,10 @@ loop-again c =
     let r : ℕ = at .link - 1 in
     let o = here in-loop in
     let todo : ℕ → Bool = pending tb (a .u) (at .link) in
-    let rest : ℕ → Bool = pending tb (a .u) (c .count2 .result) in
+    let rest : ℕ → Bool = pending tb (a .u) (c .onward .result) in
     let splits : (k : ℕ) → k < tb .records → arc tb (a .sort) k ≡ true → todo k ≡ (rest k || eqb r k) =
     λ k h is. rw (next-link c) (chain-goes-on tb (a .sort) (a .u) r (o .own) (at .link) (o .succ) k h is) in (
-      at-link tb (a .sort) (a .u) r (c .count2 .result) (omega (arith, o .inside)) (next-link c),
+      at-link tb (a .sort) (a .u) r (c .onward .result) (omega (arith, o .inside)) (next-link c),
       rw (c .before .before .before .before .add-arc .ensures)
           (turned tb (a .sort) (goal tb (a .sort) (a .u) (a .moved .now)) todo (at .moved) (at .inv .1) rest r (o .inside) (o .sort-is) (near in-loop) splits
           (rw (next-link c) (chain-passed tb (a .sort) (a .u) r (o .own)))),
@@ -278,11 +282,11 @@ follow-spec =
     place-requires
     add-arc-requires
     mul-union
-    element-copy-out-union
+    shared-slice-read-union
     union-requires
-    mul-count-3
-    shared-slice-read-count
-    count-requires-2
+    mul-onward
+    shared-slice-read-onward
+    onward-requires
     loop-less
     loop-again
     returns)

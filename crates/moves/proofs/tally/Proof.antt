@@ -75,10 +75,10 @@ abbrev μ-loop : tie.MeasureT-loop
 
 loop-holds : tie.Need-loop-holds Inv-loop μ-loop
 loop-holds c =
-    let start = c .before .before .before in
+    let start = c .before .before .before .before in
     let a = start .args in
     let tb : Table = table (a .t .now) in
-    let unmoved = start .pre .1 .1 .0 in (
+    let unmoved = start .pre .1 .1 .1 .0 in (
       omega arith,
       λ j e. e,
       record {
@@ -106,7 +106,7 @@ others : (c : tie.After-rest Inv-loop μ-loop) (j : ℕ)
 others c j = rw (c .before .lowest .ensures) (c .rest .ensures j)
 
 abbrev begun : tie.After-rest Inv-loop μ-loop → tie.Start Inv-loop μ-loop
-begun d = d .before .before .before .before .before .before .before
+begun d = d .before .before .before .before .before .before .before .before
 
 mul-union : tie.Need-mul-union Inv-loop μ-loop
 mul-union c = omega (arith, member (c .before) .0)
@@ -121,7 +121,7 @@ mul-union-2 c = omega (arith, member (c .before) .0)
 shared-slice-read-union : tie.Need-shared-slice-read-union Inv-loop μ-loop
 shared-slice-read-union c =
     let d = c .before in
-    begun d .pre .1 .1 .1 (d .before .lowest .result) (d .before .before .before .loop .inv .1 (d .before .lowest .result) (member (d .before) .1))
+    begun d .pre .1 .1 .1 .1 (d .before .lowest .result) (d .before .before .before .loop .inv .1 (d .before .lowest .result) (member (d .before) .1))
 
 union-requires : tie.Need-union-requires Inv-loop μ-loop
 union-requires c κs = search needs
@@ -146,14 +146,14 @@ follow-requires c κs =
     let d = c .before .before .before in
     let pre = begun d .pre in
     let at = d .before .before .before .loop in
-    (pre .0, (pre .1 .0, own-room d 0 (at .taken) (at .inv .2 .taking) _ (omega arith)))
+    (pre .0, (pre .1 .0, (pre .1 .1 .0, own-room d 0 (at .taken) (at .inv .2 .taking) _ (omega arith))))
 
 follow-requires-2 : tie.Need-follow-requires-2 Inv-loop μ-loop
 follow-requires-2 c κs =
     let d = c .before .before .before .before .before in
     let pre = begun d .pre in
     let at = d .before .before .before .loop in
-    (pre .0, (pre .1 .0, own-room d 3 (at .put) (at .inv .2 .putting) _ (omega arith)))
+    (pre .0, (pre .1 .0, (pre .1 .1 .0, own-room d 3 (at .put) (at .inv .2 .putting) _ (omega arith))))
 
 loop-less : tie.Need-loop-less Inv-loop μ-loop
 loop-less c =
@@ -179,7 +179,7 @@ loop-again c =
 returns : tie.Need-returns Inv-loop μ-loop
 unfolding total
 returns c =
-    let a = c .before .before .before .before .before .args in
+    let a = c .before .before .before .before .before .before .args in
     let tb : Table = table (a .t .now) in
     let at = c .before .loop in
     let g = at .inv .2 in

@@ -1,5 +1,5 @@
 -- The loop keeps that the marked places of the eights passed are tended, and that it is told of every place who lacks tokens there; all places are swept before.
-use mathlib.Core.Path.{_≡_}
+use mathlib.Core.Path.{_≡_, sym, _∙_}
 use Prim.Native.Nat.{ℕ, _+_, _-_, _*_, _≤_, _<_}
 use native.Mathlib.Omega.{arith}
 use borrow.Author.Needs.{needs}
@@ -22,14 +22,14 @@ abbrev μ-loop : tie.MeasureT-loop
 
 -- What the function began with.
 abbrev begun : tie.After-sweep Inv-loop μ-loop → tie.Start Inv-loop μ-loop
-begun c = c .before .before .before .before .before .before .before .before .before
+begun c = c .before .before .before .before .before .before .before .before .before .before .before .before
 
 mul-sweep : tie.Need-mul-sweep Inv-loop μ-loop
 mul-sweep c = search needs
 
 sweep-requires : tie.Need-sweep-requires Inv-loop μ-loop
 sweep-requires c κs =
-    let pre = c .before .before .before .before .before .before .before .before .pre in
+    let pre = c .before .before .before .before .before .before .before .before .before .before .before .pre in
     let levels = pre .1 .1 .1 .1 .0 in
     (pre .0, (pre .1 .1 .0, λ p h. (omega (arith, levels .inside p h .0, pre .0 .1 .tokens p h), levels .spans p h .roof)))
 
@@ -63,7 +63,7 @@ tend-eight-requires c κs =
 
 add-e : tie.Need-add-e Inv-loop μ-loop
 add-e c =
-    let in-loop = c .before .before .before .before .before .before .before .before .before in
+    let in-loop = c .before .before .before .before .before .before .before .before .before .before .before .before .before .before .before in
     omega (arith, in-loop .loop-test .taken, begun (in-loop .before .before) .pre .0 .0)
 
 loop-less : tie.Need-loop-less Inv-loop μ-loop
@@ -71,14 +71,25 @@ loop-less c = search needs
 
 loop-again : tie.Need-loop-again Inv-loop μ-loop
 loop-again c =
-    let in-loop = c .before .before .before .before .before .before .before .before .before in
+    let called = c .before .before .before .before .before .before in
+    let in-loop = called .before .before .before .before .before .before .before .before .before in
     let loop = in-loop .before .loop in
     let marks = in-loop .before .before .sweep .last .1 .1 .0 in
-    let eight = c .tend-eight .ensures in (
+    let eight = called .tend-eight .ensures in (
       omega (arith, in-loop .loop-test .taken),
       both-tended _ _ _ _ _ _ (loop .inv .1) (eight .0) (next-eight marks (loop .e)) (one-eight marks (loop .e)),
       eight .1,
     )
+
+-- The first three rows go as far as w, as they did at first.
+same-length : tie.Need-same-length Inv-loop μ-loop
+same-length c = c .before .loop .inv .1 .sizes .0 ∙ sym (begun (c .before .before) .pre .1 .1 .1 .1 .0 .sizes .0)
+
+same-length-2 : tie.Need-same-length-2 Inv-loop μ-loop
+same-length-2 c = c .before .loop .inv .2 .size ∙ same-length c ∙ sym (begun (c .before .before) .pre .1 .1 .1 .1 .1 .1 .size)
+
+same-length-3 : tie.Need-same-length-3 Inv-loop μ-loop
+same-length-3 c = c .before .loop .inv .1 .sizes .1 ∙ sym (begun (c .before .before) .pre .1 .1 .1 .1 .0 .sizes .1)
 
 returns : tie.Need-returns Inv-loop μ-loop
 returns c =
@@ -109,4 +120,7 @@ settle-spec =
     add-e
     loop-less
     loop-again
+    same-length
+    same-length-2
+    same-length-3
     returns)

@@ -16,15 +16,15 @@ element-copy-out-if1 c = search needs
 mul-union : tie.Need-mul-union
 mul-union c = search needs
 
-element-copy-out-union : tie.Need-element-copy-out-union
-element-copy-out-union c = search needs
+shared-slice-read-union : tie.Need-shared-slice-read-union
+shared-slice-read-union c = search needs
 
 union-requires : tie.Need-union-requires
 union-requires c κs = search needs
 
 returns : tie.Need-returns
 returns c t l =
-    let start = c .before .before .before .before .before in
+    let start = c .before .before .before .before .before .before in
     c .union .ensures t
     ∙ ap (λ (b : Bool). bit (start .args .all) t || b) (start .pre .1 .1 (c .before .before .if1 .taken) t l)
 
@@ -57,7 +57,7 @@ shared-slice-element-level-of c = search needs
 
 level-of-requires : tie.Need-level-of-requires
 level-of-requires c κs =
-    let pre = c .before .before .before .before .before .before .before .pre in
+    let pre = c .before .before .before .before .before .before .before .before .pre in
     (omega (arith, pre .0 .1), λ t l e. pre .1 .0 t l (sym (c .before .less .ensures t) ∙ e))
 
 union-requires-2 : tie.Need-union-requires-2
@@ -75,7 +75,7 @@ starved-spec =
     mul-if1
     element-copy-out-if1
     mul-union
-    element-copy-out-union
+    shared-slice-read-union
     union-requires
     returns
     mul-less

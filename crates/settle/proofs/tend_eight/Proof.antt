@@ -1,7 +1,7 @@
 -- The loop takes one mark after another out of the word, and keeps that the places whose marks are out are tended, and that it is told of
 -- every place who lacks tokens there.
 use mathlib.Core.Bool.{true, false, not, _&&_}
-use mathlib.Core.Path.{_≡_, refl, sym}
+use mathlib.Core.Path.{_≡_, refl, sym, _∙_}
 use Prim.Native.Nat.{ℕ, _+_, _*_, _/_, _^_, _<_}
 use native.Mathlib.Omega.{arith}
 use lib.Dec.{eqb}
@@ -27,14 +27,14 @@ abbrev μ-loop : tie.MeasureT-loop
 
 -- What the function began with.
 abbrev begun : tie.At-loop Inv-loop μ-loop → tie.Start Inv-loop μ-loop
-begun c = c .before .before .before
+begun c = c .before .before .before .before .before .before
 
 eight-requires : tie.Need-eight-requires Inv-loop μ-loop
-eight-requires c κs = c .before .pre .0
+eight-requires c κs = c .before .before .before .before .pre .0
 
 loop-holds : tie.Need-loop-holds Inv-loop μ-loop
 loop-holds c =
-    let pre = c .before .before .pre in
+    let pre = c .before .before .before .before .before .pre in
     (omega arith, all-waiting (c .eight .ensures), none-tended _ _ _ _ _ _ _ _ _ _ _ _ (pre .1 .1 .1 .0) (none-out (c .eight .ensures)), pre .1 .1 .1 .1 .1)
 
 -- The mark that is taken out is in the word.
@@ -97,21 +97,34 @@ tend-requires c κs =
 
 loop-less : tie.Need-loop-less Inv-loop μ-loop
 loop-less c =
-    let after = c .before .before .before .before .before .before .before .before in
+    let after = c .before .before .before .before .before .before .before .before .before .before .before .before .before .before in
     let loop = after .before .before .before .loop in
     falls (loop .word) (after .before .lowest .result) (after .rest .result) (rest after) (loop .inv .0) (omega arith) (found (after .before))
 
 loop-again : tie.Need-loop-again Inv-loop μ-loop
 loop-again c =
-    let after = c .before .before .before .before .before .before .before .before in
+    let called = c .before .before .before .before .before .before in
+    let after = called .before .before .before .before .before .before .before .before in
     let loop = after .before .before .before .loop in
     let there = found (after .before) in (
       omega arith,
       still-waiting (loop .inv .1) _ _ there (rest after),
-      both-tended _ _ _ _ _ _ (loop .inv .2) (one-tended _ _ _ _ _ _ (place after .1) (c .tend .ensures .1 .0) (c .tend .ensures .0))
+      both-tended _ _ _ _ _ _ (loop .inv .2) (one-tended _ _ _ _ _ _ (place after .1) (called .tend .ensures .1 .0) (called .tend .ensures .0))
           (not-out (loop .inv .1) _ _ there (rest after)) (one-out (loop .inv .1) _ _ there (rest after)),
-      c .tend .ensures .1 .1,
+      called .tend .ensures .1 .1,
     )
+
+-- The first three rows go as far as w, as they did at first.
+same-length : tie.Need-same-length Inv-loop μ-loop
+same-length c = c .before .loop .inv .2 .sizes .0 ∙ sym (begun (c .before) .pre .1 .1 .1 .0 .0)
+
+same-length-2 : tie.Need-same-length-2 Inv-loop μ-loop
+same-length-2 c =
+    let pre = begun (c .before) .pre .1 .1 .1 in
+    c .before .loop .inv .3 .size ∙ same-length c ∙ sym (pre .1 .1 .size)
+
+same-length-3 : tie.Need-same-length-3 Inv-loop μ-loop
+same-length-3 c = c .before .loop .inv .2 .sizes .1 ∙ sym (begun (c .before) .pre .1 .1 .1 .0 .1)
 
 returns : tie.Need-returns Inv-loop μ-loop
 returns c =
@@ -140,4 +153,7 @@ tend-eight-spec =
     tend-requires
     loop-less
     loop-again
+    same-length
+    same-length-2
+    same-length-3
     returns)
