@@ -19,7 +19,7 @@ use Rattle.meaning.proofs.Below.{last}
 use Rattle.meaning.proofs.Bool.{either}
 use Rattle.meaning.proofs.Bytes.{cut-read}
 use Rattle.sets.proofs.Bits.{bit-zero}
-use Rattle.table.proofs.Passed.{all-zero}
+use Rattle.sets.proofs.Rows.{all-zero}
 use Rattle.image.specs.Held.{Lists}
 use Rattle.image.specs.Records.{Blank, Quiet, Marked}
 

@@ -17,7 +17,7 @@ use Rattle.cycle.proofs.step.Tie as tie
 
 -- The way back: from the settling to the overfull place, from there to the tally, to the falling edge, to what the places do, and to the start.
 abbrev begun : tie.After-gather → tie.Start
-begun c = c .before .before .before .before .before .before .before .before
+begun c = c .before .before .before .before .before .before .before .before .before .before .before .before .before .before
 
 abbrev seen : tie.After-fall → tie.After-gather
 seen c = c .before .before .before .before .before .before
@@ -31,14 +31,20 @@ tallied c = c .before .before .before .before
 abbrev judged : tie.After-settle → tie.After-over
 judged c = c .before .before .before .before .before .before .before .before .before .before .before .before
 
+abbrev settled : tie.After-union → tie.After-settle
+settled c = c .before .before .before .before .before .before .before
+
 abbrev start : tie.After-tally → tie.Start
 start c = begun (seen (fallen c))
 
 mul-n : tie.Need-mul-n
-mul-n c = omega (arith, c .before .before .before .before .before .pre .0 .within .within)
+mul-n c = omega (arith, c .before .before .before .before .before .before .before .before .before .before .before .pre .0 .within .within)
 
 gather-requires : tie.Need-gather-requires
-gather-requires c κs = c .before .before .before .before .before .before .before .pre .0 .within .within
+gather-requires c κs =
+    let pre = c .before .before .before .before .before .before .before .before .before .before .before .before .before .pre in
+    let sizes = pre .1 .1 .1 .0 .levels .sizes in
+    (omega (arith, pre .0 .rooms .weight-rows, sizes .0), omega (arith, pre .0 .rooms .weight-rows, sizes .1))
 
 less-requires : tie.Need-less-requires
 less-requires c κs = search needs
@@ -57,7 +63,7 @@ firable-requires c κs =
 fired-requires : tie.Need-fired-requires
 fired-requires c κs =
     let net = begun (seen (c .before .before)) .pre .0 in
-    (ranks net, (no-rivals (net .rivals-are), housed net))
+    (ranks net, (net .rooms .rival-rows, (no-rivals (net .rivals-are), housed net)))
 
 -- The fired set and the functions are one word each, and so are the actions.
 fired-low : (c : tie.After-fired) → c .fired .result < 2 ^ 64
@@ -89,13 +95,17 @@ tally-requires c κs =
     let firable = fired .before .before in
     let fall = firable .before in
     let pre = begun (seen fall) .pre in
+    let ready = pre .1 .1 .1 .0 in
     let net = pre .0 in (
       net .sound,
       (
         (net .chains, net .links),
         (
-          (pre .1 .1 .1 .0 .none-taken, pre .1 .1 .1 .0 .none-put),
-          fired-rows net _ _ _ _ (fall .fall .last .0) (begun (seen fall) .args .word) (fall .before .before .before .before .before .less .ensures) (firable-told firable) _ (fired .fired .ensures) (fired-low fired),
+          λ r h. omega (arith, net .below r h, net .rooms .weight-rows, ready .levels .sizes .0, ready .wanting .size),
+          (
+            (ready .none-taken, ready .none-put),
+            fired-rows net _ _ _ _ (fall .fall .last .0) (begun (seen fall) .args .word) (fall .before .before .before .before .before .less .ensures) (firable-told firable) _ (fired .fired .ensures) (fired-low fired),
+          ),
         ),
       ),
     )
@@ -134,6 +144,15 @@ over-requires c κs =
       (still (pre .0) here, crowded (pre .0) here (start tally .args .ceiling) (pre .1 .1 .1 .1)),
     )
 
+same-length : tie.Need-same-length
+same-length c = search needs
+
+same-length-2 : tie.Need-same-length-2
+same-length-2 c = search needs
+
+same-length-3 : tie.Need-same-length-3
+same-length-3 c = search needs
+
 returns : tie.Need-returns
 returns c =
     let over = c .before .before in
@@ -170,20 +189,29 @@ settle-requires c κs =
 union-requires : tie.Need-union-requires
 union-requires c κs = search needs
 
+same-length-4 : tie.Need-same-length-4
+same-length-4 c = search needs
+
+same-length-5 : tie.Need-same-length-5
+same-length-5 c = search needs
+
+same-length-6 : tie.Need-same-length-6
+same-length-6 c = search needs
+
 returns-2 : tie.Need-returns-2
 returns-2 c =
-    let over = judged (c .before) in
+    let over = judged (settled c) in
     let tally = tallied over in
     let a = start tally .args in
     let pre = start tally .pre in
     let here = told tally in
-    let settle = c .before .settle .ensures in
+    let settle = settled c .settle .ensures in
     let orders : (t : ℕ)
     → bit (bitAnd (a .timed) (c .union .result)) t
-    ≡ (bit (a .timed) t && (bit (tally .before .before .before .before .fired .result) t || bit (c .before .settle .result) t)) =
+    ≡ (bit (a .timed) t && (bit (tally .before .before .before .before .fired .result) t || bit (settled c .settle .result) t)) =
     λ t. bit-and (a .timed) (c .union .result) t ∙ rw (c .union .ensures t) in (
       stepped (pre .0) here _ (over .over .ensures) _ (seen (fallen tally) .gather .ensures .1) (actions-low (seen (fallen tally))) (functions-low tally)
-          (c .before .before .before .before .before .before .before .before .before .before .before .before .if1 .left) _ _ (settle .0) orders (settle .1 .0)
+          (settled c .before .before .before .before .before .before .before .before .before .before .before .if1 .left) _ _ (settle .0) orders (settle .1 .0)
           (fallen tally .fall .ensures .0 .size),
       (λ l. poised (pre .0) here (settle .1 .0) (settle .1 .1 .0) (settle .1 .1 .1 .0) (settle .1 .1 .1 .1), λ l. topped-still (pre .0) here (settle .1 .0) (a .ceiling) (pre .1 .1 .1 .1)),
     )
@@ -201,7 +229,13 @@ step-spec =
     fired-requires
     tally-requires
     over-requires
+    same-length
+    same-length-2
+    same-length-3
     returns
     settle-requires
     union-requires
+    same-length-4
+    same-length-5
+    same-length-6
     returns-2)
