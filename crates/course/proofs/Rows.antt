@@ -7,10 +7,11 @@ use native.Mathlib.Nat.{lt-of-not-le}
 use native.Mathlib.Omega.{arith}
 use lib.Dec.{eqb}
 use lib.ListN.{length, getD}
-use borrow.Author.Tests.{ne-eqb}
+use borrow.Author.Tests.{ne-eqb, eqb-true}
 use Rattle.meaning.specs.Bytes.{bit}
 use Rattle.meaning.specs.Table.{Table, table, is}
-use Rattle.meaning.proofs.Bool.{or-true-right, not-both}
+use Rattle.meaning.proofs.Below.{none-intro}
+use Rattle.meaning.proofs.Bool.{or-true-left, or-true-right, not-both}
 use Rattle.sets.proofs.Bits.{bit-zero, same-set}
 use Rattle.meaning.specs.Priority.{through, above as stands-above}
 use Rattle.net.specs.Rows.{Gathered, Blank-from, Weights, Sorts}
@@ -47,15 +48,36 @@ module _ {bs : List ℕ} {x : Intervals} {index higher takers truths heads next 
   clean : Clean (table bs) index
   clean = record { fine = fine bs (read .sound); index = read .index-holds }
 
+  -- The transition of an arc is one of those below the reach.
+  pub named : (r : ℕ) → r < table bs .records → is (table bs) 3 r ≡ true → table bs .two r < transitions-below reach
+  named r h e =
+      let low : table bs .two r < 64 = arcs bs (read .sound) r h (eqb-true (table bs .kind r) 3 e) .1 in
+      lt-of-not-le
+      (λ (far : transitions-below reach ≤ table bs .two r).
+      omega (arith, past-transitions reach (table bs .two r) far low, read .below r h .1 (or-true-left (is (table bs) 5 r) e)))
+
+  -- Nobody stands above a transition past those below the reach.
+  pub unranked : (k : ℕ) → k ≡ transitions-below reach → Blank-from 64 k higher
+  unfolding stands-above
+  unranked k e =
+      record {
+        most = omega (arith, e, few-transitions reach);
+        none = λ t u l h i.
+            read .higher-is t u h i
+            ∙ unnamed (table bs) (table bs .records) u t
+            (λ r j named q. omega (arith, q, read .below r j .1 (or-true-right (is (table bs) 3 r) named), past-transitions reach t (omega (arith, e)) h));
+      }
+
   pub net-of : (known : ℕ) → ((t : ℕ) → t < 64 → bit known t ≡ bit (getD index (8 * t + 1) 0) 0)
       → (timed : ℕ) → ((t : ℕ) → t < 64 → bit timed t ≡ not (eqb (getD (x .sorts) t 0) 0))
       → ((q : ℕ) → getD index q 0 < 2 ^ 64) → (conditional : ℕ) → ((t : ℕ) → t < 64 → bit conditional t ≡ not (eqb (getD index (8 * t + 4) 0) 0))
       → (n : ℕ) → Empty-from index n × (n ≤ reach) → (eights : ℕ) → (reach ≤ 8 * eights) × (8 * eights ≤ reach + 7) × (8 * eights ≤ 128) → (limit last : List ℕ) → Limits x limit last
       → (low high : List ℕ) → Enters (table bs) (table bs .records) low high
       → (rivals : List ℕ) (lower : ℕ) → Rivals higher takers low high rivals lower
+      → (transitions-below reach ≤ length rivals) × (transitions-below reach ≤ length low) × (transitions-below reach ≤ length high)
       → (w s : List (List ℕ)) → Weights (table bs) w → Sorts (table bs) s → Housing reach (length w) → length s ≡ length w → (curbs : List ℕ) → Gathered (table bs) 3 2 curbs
       → Net-of bs known timed conditional lower eights x limit last index rivals w s takers low high curbs heads next truths
-  net-of known known-is timed timed-is words conditional conditional-is n empty eights fill limit last limits low high entering rivals lower rivals-are w s weights sorts
+  net-of known known-is timed timed-is words conditional conditional-is n empty eights fill limit last limits low high entering rivals lower rivals-are ranked w s weights sorts
       housing alike curbs curbing =
       let inputs : Inputs-of index (record { low = low; high = high }) = inputs-hold (table bs) index clean (arcs bs (read .sound)) entering in
       record {
@@ -90,23 +112,17 @@ module _ {bs : List ℕ} {x : Intervals} {index higher takers truths heads next 
               sort-rows = omega (arith, rows, alike);
               taker-rows = numbers;
               truth-rows = omega (arith, numbers, read .truths-long);
+              rival-rows = λ t h e.
+                  let near : t < transitions-below reach =
+                  lt-of-not-le
+                  (λ (far : transitions-below reach ≤ t).
+                  not-both e (rivals-are .lower-is t h ∙ none-intro 64 _ (λ u l. rw (unranked (transitions-below reach) refl .none t u far h l)))) in
+                  (omega (arith, near, ranked .0), omega (arith, near, ranked .1), omega (arith, near, ranked .2));
             };
         links = read .links;
         curbed = curbed (table bs) index clean (arcs bs (read .sound)) w s _ weights sorts inputs (input-once bs (read .sound)) curbs curbing;
         chains = read .chains;
         truths-hold = read .truths-hold;
-      }
-
-  -- Nobody stands above a transition past those below the reach.
-  pub unranked : (k : ℕ) → k ≡ transitions-below reach → Blank-from 64 k higher
-  unfolding stands-above
-  unranked k e =
-      record {
-        most = omega (arith, e, few-transitions reach);
-        none = λ t u l h i.
-            read .higher-is t u h i
-            ∙ unnamed (table bs) (table bs .records) u t
-            (λ r j named q. omega (arith, q, read .below r j .1 (or-true-right (is (table bs) 3 r) named), past-transitions reach t (omega (arith, e)) h));
       }
 
   -- Past the transitions below the reach nothing is timed, and nothing is asked.

@@ -5,7 +5,7 @@ use mathlib.Core.Path.{_≡_, refl, sym, ap, ap₂, _∙_}
 use Prim.Native.Nat.{ℕ, suc, _+_, _*_, _/_, _≤_, _<_}
 use native.Mathlib.Omega.{arith}
 use lib.Dec.{eqb}
-use lib.ListN.{length, take, drop, length-append, length-drop}
+use lib.ListN.{length, getD, take, drop, length-append, length-drop}
 use lib.Seq.{drop-drop, take-at, drop-append-add, drop-length}
 use borrow.Author.Tests.{ne-eqb}
 use Rattle.meaning.specs.Below.{first}
@@ -25,10 +25,18 @@ use Rattle.meaning.proofs.Run.{words, full, below-full, full-bursts, trace-fini
 use Rattle.meaning.proofs.Carried.{one-more, one-image, image-alike, after-alike, same-full, same-record-of}
 use Rattle.words.proofs.Words.{words-from, words-length}
 use Rattle.image.specs.declared.Held.{Held}
-use Rattle.image.specs.Held.{held, Holds, Small}
+use Rattle.image.specs.Held.{held, Holds, Small, Idle-past}
 use Rattle.cycle.specs.declared.Outcome.{Outcome}
 use Rattle.cycle.specs.Step.{Stepped}
 use Rattle.course.specs.Course.{Ready, Halts, Ends}
+
+-- Tokens and counters that stay have nothing where they had nothing.
+pub idle-same : {h g : Held} {n : ℕ} → Idle-past h n → g .tokens ≡ h .tokens → g .counters ≡ h .counters → Idle-past g n
+idle-same idle tokens counters =
+    record {
+      tokens = λ p l b. ap (λ (xs : List ℕ). getD xs p 0) tokens ∙ idle .tokens p l b;
+      counters = λ t l b. ap (λ (xs : List ℕ). getD xs t 0) counters ∙ idle .counters t l b;
+    }
 
 module _ (bs img ws report : List ℕ) where
   -- After i turns: the meaning's run has reached an image, the arrays hold its state, and the report holds its records.
@@ -49,6 +57,10 @@ module _ (bs img ws report : List ℕ) where
       ∙ omega (arith, written-length (table bs) (at .steps), length-drop (24 * i) report)
 
 module _ (bs img ws report : List ℕ) (sound : check bs ≡ accepted 0) (ready : Ready bs img ws report) where
+  -- The image that is lent fits.
+  pub fitting : Fits (table bs) (image img)
+  fitting k l = first-before 192 (wrong (table bs) (image img)) k (rw (ready .fits) l)
+
   -- Before the first turn.
   pub begins : (h : Held) → Holds h (state (image img)) → Small h → At bs img ws report 0 h report
   begins h holds small =
@@ -57,7 +69,7 @@ module _ (bs img ws report : List ℕ) (sound : check bs ≡ accepted 0) (ready 
         written = [];
         steps = Steps.none;
         image-is = refl;
-        fits = λ k l. first-before 192 (wrong (table bs) (image img)) k (rw (ready .fits) l);
+        fits = fitting;
         alike = record { tokens = holds .tokens; counter = holds .counters; order = holds .orders };
         small = small;
         out-is = refl;

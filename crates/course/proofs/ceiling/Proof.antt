@@ -11,7 +11,7 @@ returns : tie.Need-returns
 returns c = (omega (arith, c .if1 .taken), λ p h. omega (arith, c .before .pre .1 .0 p h))
 
 largest-requires : tie.Need-largest-requires
-largest-requires c κs = c .before .pre .1 .1
+largest-requires c κs = (c .before .pre .1 .1 .0, c .before .pre .1 .1 .1)
 
 add-result : tie.Need-add-result
 add-result c = omega (arith, c .largest .ensures .0, c .before .before .pre .0)
