@@ -4,31 +4,35 @@ use mathlib.Core.Bool.{Bool, true, false, not, _&&_, _||_}
 use mathlib.Core.List.{List, []}
 use mathlib.Core.Logic.{_≢_}
 use mathlib.Core.Path.{_≡_, refl, sym, ap, _∙_}
-use Prim.Native.Nat.{ℕ, _%_, _≤_, _<_}
+use Prim.Native.Nat.{ℕ, _+_, _*_, _%_, _^_, _≤_, _<_}
+use native.Mathlib.Nat.{lt-of-not-le}
 use native.Mathlib.Omega.{arith}
 use lib.Dec.{eqb, ltb}
 use lib.ListN.{length, getD}
-use borrow.Author.Tests.{lt-ltb, le-ltb, ltb-false, not-true, eqb-false}
+use borrow.Author.Tests.{lt-ltb, le-ltb, ltb-false, not-true, eqb-true, eqb-false}
 use Rattle.meaning.specs.Below.{first}
 use Rattle.meaning.specs.Bytes.{bit}
 use Rattle.meaning.specs.Table.{table, transition, is}
 use Rattle.meaning.specs.Answer.{Check, accepted, refused}
 use Rattle.meaning.specs.Priority.{above}
 use Rattle.meaning.specs.Defined.{bad-length, fault, faulty, unknown, empty, isolated, circle, conflict, settled, unsettled, clashes, check}
-use Rattle.meaning.proofs.Bool.{and-left, and-right, or-false-right}
-use Rattle.meaning.proofs.Below.{first-le, first-passes, first-before, first-same, first-none}
+use Rattle.meaning.proofs.Bool.{and-left, and-right, or-true-right, or-false-right, not-both}
+use Rattle.meaning.proofs.Below.{some-elim, first-le, first-passes, first-before, first-same, first-none}
 use Rattle.meaning.proofs.Shows.{nonzero}
 use Rattle.meaning.proofs.Same.{of-kind, shown-arc, shown-priority}
 use Rattle.meaning.proofs.Rows.{transition-decides, conflict-decides}
 use Rattle.meaning.proofs.Tables.{arc-transition}
 use Rattle.table.specs.declared.Pass.{Pass}
-use Rattle.table.specs.Index.{extent-of, Scanned, Reaches, Roomy, names-unknown-at, none-of, lone}
+use Rattle.sets.proofs.Bits.{bit-under}
+use Rattle.table.specs.Index.{extent-of, transitions-below, Scanned, Reaches, Roomy, names-unknown-at, none-of, lone}
+use Rattle.table.proofs.Firsts.{past-transitions}
 use Rattle.table.proofs.Carry.{Clean, clean-of, shown, unknown-same, none-same, lone-same, written-bit}
 use Rattle.table.proofs.Reach.{Below, below-of, reaches-of, roomy-reach, named-below}
 use Rattle.net.specs.Grow.{names, Grown}
 use Rattle.net.specs.Links.{Linked, Chained}
 use Rattle.net.specs.Rows.{Gathered, Conflicts}
 use Rattle.net.proofs.Filing.{gathered}
+use Rattle.net.proofs.Reach.{gathered-low}
 use Rattle.net.proofs.Carry.{conflict-bit}
 use Rattle.priority.specs.Closed.{Closed, Turned}
 use Rattle.priority.proofs.Carry.{above-bit, circle-same}
@@ -194,6 +198,24 @@ module _ {bs : List ℕ} {s : Pass} {reach : ℕ} {index : List ℕ} where
 
     pub arcs-below : (r : ℕ) → r < table bs .records → table bs .kind r ≡ 3 → table bs .two r < reach
     arcs-below r h e = both-below r h .1 (rw e)
+
+    -- So each transition of a written pair, and each that takes, is one of the transitions below the reach.
+    pub pairs-low : ((q : ℕ) → getD index q 0 < 2 ^ 64) → (u t : ℕ) → u < 64 → bit (getD index (8 * u + 5) 0) t ≡ true → t < transitions-below reach
+    pairs-low words u t h e =
+        let low : t < 64 = bit-under (getD index (8 * u + 5) 0) t (words (8 * u + 5)) e in
+        let w = some-elim (table bs .records) (λ r. is (table bs) 5 r && eqb (table bs .one r) u && eqb (table bs .two r) t) (sym (written-bit (k .fine .clean) u t h low) ∙ e) in
+        let r : ℕ = w .0 in
+        let pair = and-left (is (table bs) 5 r && eqb (table bs .one r) u) (eqb (table bs .two r) t) (w .2) in
+        let named = both-below r (w .1) .1 (or-true-right (is (table bs) 3 r) (and-left (is (table bs) 5 r) (eqb (table bs .one r) u) pair)) in
+        let here : table bs .two r ≡ t = eqb-true (table bs .two r) t (and-right (is (table bs) 5 r && eqb (table bs .one r) u) (eqb (table bs .two r) t) (w .2)) in
+        lt-of-not-le (λ (far : transitions-below reach ≤ t). omega (arith, past-transitions reach t far low, named, here))
+
+    pub takers-low : {takers : List ℕ} → ((q : ℕ) → getD takers q 0 < 2 ^ 64) → Gathered (table bs) 3 0 takers → (p u : ℕ) → p < 128
+        → bit (getD takers p 0) u ≡ true → u < transitions-below reach
+    takers-low {takers} words g p u h e =
+        let low : u < 64 = bit-under (getD takers p 0) u (words p) e in
+        lt-of-not-le
+        (λ (far : transitions-below reach ≤ u). not-both e (gathered-low arcs-below g p u h (past-transitions reach u far low) low))
 
   -- 8: the first transition above itself by the closed rows.
   module _ (k : Past bs s reach index (from-8 bs)) {below : List ℕ} (closed : Closed index below) {o : ℕ}

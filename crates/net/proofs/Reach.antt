@@ -31,7 +31,7 @@ module _ {tb : Table} {n : ℕ} where
       }
 
   module _ (low : (r : ℕ) → r < tb .records → tb .kind r ≡ 3 → tb .two r < n) where
-    gathered-low : {sort : ℕ} {rows : List ℕ} → Gathered tb 3 sort rows → (x y : ℕ) → x < 128 → n ≤ y → y < 64 → bit (getD rows x 0) y ≡ false
+    pub gathered-low : {sort : ℕ} {rows : List ℕ} → Gathered tb 3 sort rows → (x y : ℕ) → x < 128 → n ≤ y → y < 64 → bit (getD rows x 0) y ≡ false
     gathered-low {sort} {rows} g x y hx h hy =
         not-true-false _
         (λ e.

@@ -3,8 +3,8 @@ use mathlib.Core.Path.{refl}
 use borrow.Author.Tests.{leb-true}
 use Rattle.meaning.specs.Table.{table}
 use Rattle.meaning.proofs.Bool.{not-both}
-use Rattle.engine.proofs.holds.Statement.{statement}
-use Rattle.engine.proofs.holds.Tie as tie
+use Rattle.engine.proofs.sizes.holds.Statement.{statement}
+use Rattle.engine.proofs.sizes.holds.Tie as tie
 
 returns : tie.Need-returns
 unfolding table
