@@ -23,9 +23,9 @@ at-most a b = go (ltb b a) refl
     go false e = le-leb a b (ltb-false b a e)
 
 -- On a level every arc is reached or missed as it is with the tokens at hand, so the same arcs are short.
-pub levelled : {tokens : ℕ} (arcs : ℕ) (w : List ℕ) (x : Level) (k : ℕ) → x .from ≤ k → k < x .upto
+pub levelled : {tokens : ℕ} (arcs : ℕ) (w : List ℕ) (x : Level) (k : ℕ) → x .from ≤ k → k ≤ x .upto
     → ((t : ℕ) → bit (x .short) t ≡ (bit arcs t && ltb tokens (getD w t 0)))
-    → ((t : ℕ) → bit arcs t ≡ true → (getD w t 0 ≤ tokens → getD w t 0 ≤ x .from) × (tokens < getD w t 0 → x .upto ≤ getD w t 0))
+    → ((t : ℕ) → bit arcs t ≡ true → (getD w t 0 ≤ tokens → getD w t 0 ≤ x .from) × (tokens < getD w t 0 → x .upto < getD w t 0))
     → (t : ℕ) → bit (x .short) t ≡ (bit arcs t && ltb k (getD w t 0))
 levelled {tokens} arcs w x k low high is ends t = is t ∙ go (bit arcs t) refl
   where

@@ -33,16 +33,16 @@ pub record Narrowed (tokens t weight : ℕ) (x y : Level) : Type 0 where
   pub from-up : x .from ≤ y .from
   pub upto-down : y .upto ≤ x .upto
   pub still-from : x .from ≤ tokens → y .from ≤ tokens
-  pub still-upto : tokens < x .upto → tokens < y .upto
+  pub still-upto : tokens ≤ x .upto → tokens ≤ y .upto
   pub reached : weight ≤ tokens → weight ≤ y .from
-  pub missed : tokens < weight → y .upto ≤ weight
+  pub missed : tokens < weight → y .upto < weight
 
 -- So many tokens are on the level, and with any other number on it the same arcs are short, and the place is empty or is not. It ends below 2^31.
 pub record Level-of (tokens arcs : ℕ) (w : List ℕ) (x : Level) : Type 0 where
   pub roof : x .upto ≤ 2147483647
-  pub inside : (x .from ≤ tokens) × (tokens < x .upto)
-  pub empty : (k : ℕ) → x .from ≤ k → k < x .upto → eqb k 0 ≡ eqb tokens 0
-  pub short-is : (k : ℕ) → x .from ≤ k → k < x .upto → (t : ℕ) → bit (x .short) t ≡ (bit arcs t && ltb k (getD w t 0))
+  pub inside : (x .from ≤ tokens) × (tokens ≤ x .upto)
+  pub empty : (k : ℕ) → x .from ≤ k → k ≤ x .upto → eqb k 0 ≡ eqb tokens 0
+  pub short-is : (k : ℕ) → x .from ≤ k → k ≤ x .upto → (t : ℕ) → bit (x .short) t ≡ (bit arcs t && ltb k (getD w t 0))
 
 -- The set of those that k tokens on place p stop: an inhibitor arc (sort 2) that finds its weight, any other arc that does not.
 unfoldable pub held-by : List ℕ → List (List ℕ) → List (List ℕ) → ℕ → ℕ → ℕ
@@ -52,11 +52,11 @@ held-by index w s k p = bits (λ t. bit (getD index (8 * p + 2) 0) t && cond (eq
 abbrev pub shown-by : List ℕ → ℕ → ℕ → ℕ
 shown-by index k p = cond (eqb k 0) 0 (getD index (8 * p + 6) 0)
 
--- With any number of tokens from the one on and below the other, place p holds these back and shows these. The other is below 2^31.
+-- With any number of tokens from the one to the other, both included, place p holds these back and shows these. The other is below 2^31.
 pub record Spans (index : List ℕ) (w s : List (List ℕ)) (p held shown from upto : ℕ) : Type 0 where
   pub roof : upto ≤ 2147483647
-  pub holds : (k : ℕ) → from ≤ k → k < upto → held ≡ held-by index w s k p
-  pub shows : (k : ℕ) → from ≤ k → k < upto → shown ≡ shown-by index k p
+  pub holds : (k : ℕ) → from ≤ k → k ≤ upto → held ≡ held-by index w s k p
+  pub shows : (k : ℕ) → from ≤ k → k ≤ upto → shown ≡ shown-by index k p
 
 -- The first two of the four rows go as far as those of the weights, and past them nobody is held back and nothing shown; the other two have a place each for
 -- every place.
@@ -67,13 +67,13 @@ Four w held shown from upto = (length held ≡ length w) × (length shown ≡ le
 pub record Levels (index : List ℕ) (w s : List (List ℕ)) (m held shown from upto : List ℕ) : Type 0 where
   pub sizes : Four w held shown from upto
   pub spans : (p : ℕ) → p < 128 → Spans index w s p (getD held p 0) (getD shown p 0) (getD from p 0) (getD upto p 0)
-  pub inside : (p : ℕ) → p < 128 → (getD from p 0 ≤ getD m p 0) × (getD m p 0 < getD upto p 0)
+  pub inside : (p : ℕ) → p < 128 → (getD from p 0 ≤ getD m p 0) × (getD m p 0 ≤ getD upto p 0)
 
 -- The rows of place p span so many tokens, and the others are as they were.
 pub record Moves-to (index : List ℕ) (w s : List (List ℕ)) (p tokens : ℕ) (held shown from upto held′ shown′ from′ upto′ : List ℕ) : Type 0 where
   pub sizes : Four w held′ shown′ from′ upto′
   pub spans : Spans index w s p (getD held′ p 0) (getD shown′ p 0) (getD from′ p 0) (getD upto′ p 0)
-  pub inside : (getD from′ p 0 ≤ tokens) × (tokens < getD upto′ p 0)
+  pub inside : (getD from′ p 0 ≤ tokens) × (tokens ≤ getD upto′ p 0)
   pub others : (q : ℕ) → ¬ (q ≡ p)
       → (getD held′ q 0 ≡ getD held q 0) × (getD shown′ q 0 ≡ getD shown q 0) × (getD from′ q 0 ≡ getD from q 0) × (getD upto′ q 0 ≡ getD upto q 0)
 

@@ -22,7 +22,7 @@ pub fn stops(tokens: u32, weight: u16, sort: u8) -> bool
 }
 
 // A level of a place's tokens: who has an arc from the place whose weight is not reached. That is the same with any number of tokens from `from`
-// on and below `upto`.
+// to `upto`, both included.
 pub struct Level {
     pub short: u64,
     pub from: u32,
@@ -37,12 +37,12 @@ fn higher(x: u32, y: u32) -> u32
 }
 
 fn lower(x: u32, y: u32) -> u32
-    ensures { λ r. ⌜ (r ≤ x) × (r ≤ y) × ((k : ℕ) → k < x → k < y → k < r) ⌝ }
+    ensures { λ r. ⌜ (r ≤ x) × (r ≤ y) × ((k : ℕ) → k ≤ x → k ≤ y → k ≤ r) ⌝ }
 {
     if y < x { y } else { x }
 }
 
-// The level with one more arc, to transition t: it begins or ends at the arc's weight, if that is nearer.
+// The level with one more arc, to transition t: it begins at the arc's weight or ends just below it, if that is nearer.
 fn narrowed(x: Level, tokens: u32, t: usize, weight: u16) -> Level
     ensures { λ y. ⌜ Narrowed tokens t weight x y ⌝ }
 {
@@ -54,7 +54,7 @@ fn narrowed(x: Level, tokens: u32, t: usize, weight: u16) -> Level
         Level {
             short: sets::with(short, t),
             from,
-            upto: lower(upto, wanted),
+            upto: lower(upto, wanted - 1),
         }
     } else {
         Level {
@@ -76,7 +76,7 @@ pub fn level_of(tokens: u32, arcs: u64, w: &[u16; 64]) -> Level
         return Level {
             short: arcs,
             from: 0,
-            upto: 1,
+            upto: 0,
         };
     }
     let mut x = Level {
@@ -102,9 +102,9 @@ fn shows(tokens: u32, row: u64) -> u64
 
 // Is the number outside of a level?
 fn outside(tokens: u32, from: u32, upto: u32) -> bool
-    ensures { λ r. ⌜ r ≡ (ltb tokens from || leb upto tokens) ⌝ }
+    ensures { λ r. ⌜ r ≡ (ltb tokens from || ltb upto tokens) ⌝ }
 {
-    if tokens < from { true } else { upto <= tokens }
+    if tokens < from { true } else { upto < tokens }
 }
 
 // Row p of the five for so many tokens on place p: whom they hold back, who of those lacks tokens there, the actions they show, and their level.

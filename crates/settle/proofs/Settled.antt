@@ -4,9 +4,9 @@ use mathlib.Core.List.{List}
 use mathlib.Core.Path.{_≡_, refl, sym, ap, _∙_}
 use Prim.Native.Nat.{ℕ, _+_, _-_, _*_, _/_, _≤_, _<_}
 use native.Mathlib.Omega.{arith}
-use lib.Dec.{leb, ltb, eqb}
+use lib.Dec.{ltb, eqb}
 use lib.ListN.{getD}
-use borrow.Author.Tests.{ltb-true, ltb-false, leb-false, eqb-true, eqb-false, lt-ltb, le-ltb, ne-eqb}
+use borrow.Author.Tests.{ltb-true, ltb-false, eqb-true, eqb-false, lt-ltb, le-ltb, ne-eqb}
 use Rattle.meaning.specs.Below.{some}
 use Rattle.meaning.specs.Bytes.{bit}
 use Rattle.meaning.proofs.Bool.{not-both, and-left, or-false-left, or-false-right}
@@ -60,20 +60,20 @@ module _ (eights : ℕ) {m taken put m′ left taken′ put′ marks index curbs
     (levels : Levels index w s m held shown from upto)
     (tended : Tended (marked-to marks eights) index curbs w s m′ left lack held shown from upto r held′ shown′ from′ upto′) where
   -- A place that is not marked has its new tokens on the level that it had.
-  unmarked : (p : ℕ) → p < 128 → marked-to marks eights p ≡ false → (getD from p 0 ≤ getD m′ p 0) × (getD m′ p 0 < getD upto p 0)
+  unmarked : (p : ℕ) → p < 128 → marked-to marks eights p ≡ false → (getD from p 0 ≤ getD m′ p 0) × (getD m′ p 0 ≤ getD upto p 0)
   unmarked p h z = go (ltb p (8 * eights)) refl
     where
-      swept-over : p < 8 * eights → (b : Bool) → (ltb (getD left p 0) (getD from p 0) || leb (getD upto p 0) (getD m′ p 0)) ≡ b
-          → (getD from p 0 ≤ getD m′ p 0) × (getD m′ p 0 < getD upto p 0)
+      swept-over : p < 8 * eights → (b : Bool) → (ltb (getD left p 0) (getD from p 0) || ltb (getD upto p 0) (getD m′ p 0)) ≡ b
+          → (getD from p 0 ≤ getD m′ p 0) × (getD m′ p 0 ≤ getD upto p 0)
       swept-over l true e =
           let one : getD marks p 0 ≡ 1 = marked .marked p l ∙ rw e in
           not-both (rw (lt-ltb (p / 8) eights (omega arith), one)) z
       swept-over l false e =
           let rest : getD from p 0 ≤ getD left p 0 = ltb-false _ _ (or-false-left (ltb (getD left p 0) (getD from p 0)) _ e) in
-          (omega (arith, rest-low swept p l), leb-false _ _ (or-false-right (ltb (getD left p 0) (getD from p 0)) _ e))
+          (omega (arith, rest-low swept p l), ltb-false _ _ (or-false-right (ltb (getD left p 0) (getD from p 0)) _ e))
 
-      go : (b : Bool) → ltb p (8 * eights) ≡ b → (getD from p 0 ≤ getD m′ p 0) × (getD m′ p 0 < getD upto p 0)
-      go true y = swept-over (ltb-true p (8 * eights) y) (ltb (getD left p 0) (getD from p 0) || leb (getD upto p 0) (getD m′ p 0)) refl
+      go : (b : Bool) → ltb p (8 * eights) ≡ b → (getD from p 0 ≤ getD m′ p 0) × (getD m′ p 0 ≤ getD upto p 0)
+      go true y = swept-over (ltb-true p (8 * eights) y) (ltb (getD left p 0) (getD from p 0) || ltb (getD upto p 0) (getD m′ p 0)) refl
       go false y =
           let same : getD m′ p 0 ≡ getD m p 0 = swept .tokens p ∙ rw y in
           rw same (levels .inside p h)
@@ -87,7 +87,7 @@ module _ (eights : ℕ) {m taken put m′ left taken′ put′ marks index curbs
         inside = λ p h. inside p h (marked-to marks eights p) refl;
       }
     where
-      inside : (p : ℕ) → p < 128 → (b : Bool) → marked-to marks eights p ≡ b → (getD from′ p 0 ≤ getD m′ p 0) × (getD m′ p 0 < getD upto′ p 0)
+      inside : (p : ℕ) → p < 128 → (b : Bool) → marked-to marks eights p ≡ b → (getD from′ p 0 ≤ getD m′ p 0) × (getD m′ p 0 ≤ getD upto′ p 0)
       inside p h true z = tended .inside p h z
       inside p h false z =
           let o = tended .others p z in
@@ -103,7 +103,7 @@ module _ (eights : ℕ) {m taken put m′ left taken′ put′ marks index curbs
         lacking : Bool
         lacking = bit (getD lacks p 0) t
 
-        lacking-is : (k : ℕ) → getD from p 0 ≤ k → k < getD upto p 0 → lacking ≡ short index curbs w t p k
+        lacking-is : (k : ℕ) → getD from p 0 ≤ k → k ≤ getD upto p 0 → lacking ≡ short index curbs w t p k
         lacking-is k low high = spans-plain curbed wanting (levels .spans p h) h k low high t l
 
         go : (a b c : Bool) → ltb p (8 * eights) ≡ a → ltb 0 (getD taken p 0) ≡ b → ltb (getD left p 0) (getD from p 0) ≡ c

@@ -4,7 +4,7 @@ use mathlib.Core.List.{List}
 use mathlib.Core.Path.{_≡_, refl, sym, ap₂, _∙_}
 use Prim.Native.Nat.{ℕ, _+_, _-_, _≤_, _<_}
 use native.Mathlib.Omega.{arith}
-use lib.Dec.{leb, ltb, eqb}
+use lib.Dec.{ltb, eqb}
 use lib.ListN.{length, getD, set, length-set}
 use lib.Seq.{getD-set-same, getD-set-other}
 use borrow.Author.Tests.{eqb-true, eqb-false, ltb-false, lt-ltb, le-ltb}
@@ -58,16 +58,16 @@ pub none-marked : (from upto m left marks : List ℕ) → length marks ≡ 128 �
 none-marked from upto m left marks e = record { size = e; marked = λ p h. absurd (omega (arith, h)) }
 
 pub one-marked : {p : ℕ} {from upto m left marks : List ℕ} (rest new v : ℕ) → p < 128 → length m ≡ 128 → length left ≡ 128
-    → Marked p from upto m left marks → v ≡ cond (ltb rest (getD from p 0) || leb (getD upto p 0) new) 1 0
+    → Marked p from upto m left marks → v ≡ cond (ltb rest (getD from p 0) || ltb (getD upto p 0) new) 1 0
     → Marked (p + 1) from upto (set m p new) (set left p rest) (set marks p v)
 one-marked {p} {from} {upto} {m} {left} {marks} rest new v h lm ll marked e =
     record { size = length-set marks p v ∙ marked .size; marked = row-more _ marks p v (omega (arith, marked .size)) before here }
   where
-    here : v ≡ cond (ltb (getD (set left p rest) p 0) (getD from p 0) || leb (getD upto p 0) (getD (set m p new) p 0)) 1 0
+    here : v ≡ cond (ltb (getD (set left p rest) p 0) (getD from p 0) || ltb (getD upto p 0) (getD (set m p new) p 0)) 1 0
     here = rw (getD-set-same left p rest 0 (omega arith), getD-set-same m p new 0 (omega arith)) e
 
     before : (q : ℕ) → q < p
-        → getD marks q 0 ≡ cond (ltb (getD (set left p rest) q 0) (getD from q 0) || leb (getD upto q 0) (getD (set m p new) q 0)) 1 0
+        → getD marks q 0 ≡ cond (ltb (getD (set left p rest) q 0) (getD from q 0) || ltb (getD upto q 0) (getD (set m p new) q 0)) 1 0
     before q l =
         let apart : ¬ (q ≡ p) = λ z. omega arith in
         rw (getD-set-other left p q rest 0 apart, getD-set-other m p q new 0 apart) (marked .marked q l)
@@ -76,7 +76,7 @@ one-marked {p} {from} {upto} {m} {left} {marks} rest new v h lm ll marked e =
 
 -- A mark is 0 or 1.
 pub mark-low : {n : ℕ} {from upto m left marks : List ℕ} → Marked n from upto m left marks → (p : ℕ) → p < n → getD marks p 0 ≤ 1
-mark-low {n} {from} {upto} {m} {left} {marks} marked p h = rw (marked .marked p h) (go (ltb (getD left p 0) (getD from p 0) || leb (getD upto p 0) (getD m p 0)))
+mark-low {n} {from} {upto} {m} {left} {marks} marked p h = rw (marked .marked p h) (go (ltb (getD left p 0) (getD from p 0) || ltb (getD upto p 0) (getD m p 0)))
   where
     go : (b : Bool) → cond b 1 0 ≤ 1
     go true = omega arith

@@ -27,7 +27,7 @@ some-at n p f h = same-test _ _ there (λ e. some-intro n _ p h (rw (eq-eqb p p 
 
 -- Who lacks tokens at a place is whoever is short with any number of tokens that its rows span.
 pub spans-plain : {index curbs held lacks : List ℕ} {w s : List (List ℕ)} {p shown from upto : ℕ} → Curbed index s curbs → Wanting held curbs lacks
-    → Spans index w s p (getD held p 0) shown from upto → p < 128 → (k : ℕ) → from ≤ k → k < upto → (t : ℕ) → t < 64
+    → Spans index w s p (getD held p 0) shown from upto → p < 128 → (k : ℕ) → from ≤ k → k ≤ upto → (t : ℕ) → t < 64
     → bit (getD lacks p 0) t ≡ (plain index curbs p t && ltb k (cell w p t))
 spans-plain {index} {curbs} {held} {lacks} {w} {s} {p} curbed wanting spans h k low high t l =
     wanting .same p t h l ∙ ap (λ (x : ℕ). bit x t && not (bit (getD curbs p 0) t)) (spans .holds k low high) ∙ plain-held curbed p h w k t l
@@ -87,7 +87,7 @@ module _ (index curbs : List ℕ) (w s : List (List ℕ)) (m left : List ℕ) wh
           let o = second .others p e in
           rw (o .0, o .1, o .2, o .3) (first .spans p h (earlier p e z))
 
-      inside : (p : ℕ) → p < 128 → (x : Bool) → b p ≡ x → (a p || b p) ≡ true → (getD from″ p 0 ≤ getD m p 0) × (getD m p 0 < getD upto″ p 0)
+      inside : (p : ℕ) → p < 128 → (x : Bool) → b p ≡ x → (a p || b p) ≡ true → (getD from″ p 0 ≤ getD m p 0) × (getD m p 0 ≤ getD upto″ p 0)
       inside p h true e z = second .inside p h e
       inside p h false e z =
           let o = second .others p e in

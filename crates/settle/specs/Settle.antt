@@ -3,7 +3,7 @@ use mathlib.Core.Bool.{Bool, true, false, cond, _&&_, _||_}
 use mathlib.Core.List.{List}
 use mathlib.Core.Path.{_≡_}
 use Prim.Native.Nat.{ℕ, _+_, _-_, _*_, _/_, _≤_, _<_}
-use lib.Dec.{leb, ltb, eqb}
+use lib.Dec.{ltb, eqb}
 use lib.ListN.{length, getD}
 use Rattle.meaning.specs.Below.{some}
 use Rattle.meaning.specs.Bytes.{bit}
@@ -44,7 +44,7 @@ pub record Swept (n : ℕ) (m taken put m′ left taken′ put′ : List ℕ) : 
 -- A place below n is marked 1 where its rest is below its level or its new tokens are past it, else 0.
 pub record Marked (n : ℕ) (from upto m left marks : List ℕ) : Type 0 where
   pub size : length marks ≡ 128
-  pub marked : (p : ℕ) → p < n → getD marks p 0 ≡ cond (ltb (getD left p 0) (getD from p 0) || leb (getD upto p 0) (getD m p 0)) 1 0
+  pub marked : (p : ℕ) → p < n → getD marks p 0 ≡ cond (ltb (getD left p 0) (getD from p 0) || ltb (getD upto p 0) (getD m p 0)) 1 0
 
 -- Bit 8k of the word is the mark of place 8e + k, and the word has no other bits.
 pub record Eight (marks : List ℕ) (e word : ℕ) : Type 0 where
@@ -65,7 +65,7 @@ pub record Tended (done : ℕ → Bool) (index curbs : List ℕ) (w s : List (Li
     (held′ shown′ from′ upto′ : List ℕ) : Type 0 where
   pub sizes : Four w held′ shown′ from′ upto′
   pub spans : (p : ℕ) → p < 128 → done p ≡ true → Spans index w s p (getD held′ p 0) (getD shown′ p 0) (getD from′ p 0) (getD upto′ p 0)
-  pub inside : (p : ℕ) → p < 128 → done p ≡ true → (getD from′ p 0 ≤ getD m p 0) × (getD m p 0 < getD upto′ p 0)
+  pub inside : (p : ℕ) → p < 128 → done p ≡ true → (getD from′ p 0 ≤ getD m p 0) × (getD m p 0 ≤ getD upto′ p 0)
   pub others : (p : ℕ) → done p ≡ false
       → (getD held′ p 0 ≡ getD held p 0) × (getD shown′ p 0 ≡ getD shown p 0) × (getD from′ p 0 ≡ getD from p 0) × (getD upto′ p 0 ≡ getD upto p 0)
   pub starves : (t : ℕ) → t < 64 → bit r t ≡ (bit all t || some 128 (λ p. done p && fallen index curbs w left from t p))

@@ -3,7 +3,7 @@
 ghost use mathlib.Core.Bool.{true, cond, _&&_, _||_};
 ghost use mathlib.Core.Path.{_≡_};
 ghost use Prim.Native.Nat.{ℕ, _+_, _-_, _*_, _≤_, _<_};
-ghost use lib.Dec.{leb, ltb};
+ghost use lib.Dec.{ltb};
 ghost use lib.ListN.{length, getD};
 ghost use Rattle.meaning.specs.Below.{first};
 ghost use Rattle.meaning.specs.Bytes.{bit};
@@ -52,12 +52,12 @@ fn below(x: u32, y: u32) -> bool
 // The mark of a place: 1 if its level is left, by what the taking leaves there or by what it has in the end, else 0.
 fn mark(rest: u32, new: u32, from: u32, upto: u32) -> u8
     requires { ⌜ (rest < 2147483648) × (new < 2147483648) × (from < 2147483648) × (upto < 2147483648) ⌝ }
-    ensures { λ r. ⌜ r ≡ cond (ltb rest from || leb upto new) 1 0 ⌝ }
+    ensures { λ r. ⌜ r ≡ cond (ltb rest from || ltb upto new) 1 0 ⌝ }
 {
     if below(rest, from) {
         return 1;
     }
-    if below(new, upto) { 0 } else { 1 }
+    if below(upto, new) { 1 } else { 0 }
 }
 
 // All places below n in one sweep: what the taking leaves goes into `left`, the new tokens into m, and each place gets its mark. What is taken and put

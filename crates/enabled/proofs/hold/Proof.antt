@@ -18,7 +18,7 @@ use Rattle.enabled.proofs.hold.Tie as tie
 -- The rows of place q span its tokens; or they are as they were lent.
 abbrev Spanned : List ℕ → List (List ℕ) → List (List ℕ) → List ℕ → List ℕ → List ℕ → List ℕ → List ℕ → ℕ → Type 0
 Spanned index w s m held shown from upto q =
-    Spans index w s q (getD held q 0) (getD shown q 0) (getD from q 0) (getD upto q 0) × (getD from q 0 ≤ getD m q 0) × (getD m q 0 < getD upto q 0)
+    Spans index w s q (getD held q 0) (getD shown q 0) (getD from q 0) (getD upto q 0) × (getD from q 0 ≤ getD m q 0) × (getD m q 0 ≤ getD upto q 0)
 
 abbrev Lent : List ℕ → List ℕ → List ℕ → List ℕ → ℕ → Type 0
 Lent held shown from upto q = (getD held q 0 ≡ 0) × (getD shown q 0 ≡ 0) × (getD from q 0 ≡ 0) × (getD upto q 0 ≡ 2147483647)
@@ -56,7 +56,7 @@ all-spanned index w s m held shown from upto n p none l four few passed to-come 
         let past : p ≤ q = ltb-false q p e in
         let o = to-come q past h in
         rw (o .0, o .1, o .2, o .3)
-        (none-spans index w s q 0 2147483647 (none .no-arc q (omega (arith, past, l)) h) (none .no-action q (omega (arith, past, l)) h) (omega arith), omega arith, few q h)
+        (none-spans index w s q 0 2147483647 (none .no-arc q (omega (arith, past, l)) h) (none .no-action q (omega (arith, past, l)) h) (omega arith), omega arith, omega (arith, few q h))
 
 abbrev Inv-loop : tie.InvT-loop
 Inv-loop m index curbs w s n held₀ lacks₀ shown₀ from₀ upto₀ p₀ held lacks shown from upto p =

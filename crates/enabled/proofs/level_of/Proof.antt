@@ -19,9 +19,9 @@ use Rattle.enabled.proofs.level_of.Tie as tie
 
 abbrev Inv-loop : tie.InvT-loop
 Inv-loop tokens arcs w x₀ left₀ x left =
-    (left < 2 ^ 64) × (1 ≤ x .from) × (x .upto ≤ 2147483647) × (x .from ≤ tokens) × (tokens < x .upto)
+    (left < 2 ^ 64) × (1 ≤ x .from) × (x .upto ≤ 2147483647) × (x .from ≤ tokens) × (tokens ≤ x .upto)
     × ((t : ℕ) → (bit (x .short) t || (bit left t && ltb tokens (getD w t 0))) ≡ (bit arcs t && ltb tokens (getD w t 0)))
-    × ((t : ℕ) → bit arcs t ≡ true → bit left t ≡ false → (getD w t 0 ≤ tokens → getD w t 0 ≤ x .from) × (tokens < getD w t 0 → x .upto ≤ getD w t 0))
+    × ((t : ℕ) → bit arcs t ≡ true → bit left t ≡ false → (getD w t 0 ≤ tokens → getD w t 0 ≤ x .from) × (tokens < getD w t 0 → x .upto < getD w t 0))
 
 abbrev μ-loop : tie.MeasureT-loop
 μ-loop tokens arcs w x₀ left₀ x left = left
@@ -45,7 +45,7 @@ loop-holds c =
       omega arith,
       omega arith,
       omega (arith, c .if1 .left),
-      c .before .pre .0,
+      omega (arith, c .before .pre .0),
       λ t. none-kept (a .arcs) t _,
       λ t e n. not-both e n,
     )
@@ -102,7 +102,7 @@ loop-again c =
         → (getD (c .before .before .before .before .before .before .before .args .w .now) t 0 ≤ c .before .before .before .before .before .before .before .args .tokens
         → getD (c .before .before .before .before .before .before .before .args .w .now) t 0 ≤ c .before .narrowed .result .from)
         × (c .before .before .before .before .before .before .before .args .tokens < getD (c .before .before .before .before .before .before .before .args .w .now) t 0
-        → c .before .narrowed .result .upto ≤ getD (c .before .before .before .before .before .before .before .args .w .now) t 0)
+        → c .before .narrowed .result .upto < getD (c .before .before .before .before .before .before .before .args .w .now) t 0)
     ends t e n true q = rw (← eqb-true _ t q) (c .before .narrowed .ensures .reached, c .before .narrowed .ensures .missed)
     ends t e n false q =
         let y = c .before .narrowed .ensures in

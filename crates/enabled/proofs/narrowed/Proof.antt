@@ -10,6 +10,9 @@ use Rattle.enabled.proofs.narrowed.Tie as tie
 with-requires : tie.Need-with-requires
 with-requires c κs = search needs
 
+sub-lower : tie.Need-sub-lower
+sub-lower c = search needs
+
 lower-requires : tie.Need-lower-requires
 lower-requires c κs = search needs
 
@@ -24,9 +27,9 @@ returns c =
       from-up = omega arith;
       upto-down = c .lower .ensures .0;
       still-from = λ h. h;
-      still-upto = λ h. c .lower .ensures .2 _ h missed;
+      still-upto = λ h. c .lower .ensures .2 _ h (omega (arith, missed));
       reached = λ h. absurd (omega (arith, h, missed));
-      missed = λ h. c .lower .ensures .1;
+      missed = λ h. omega (arith, missed, c .lower .ensures .1);
     }
 
 returns-2 : tie.Need-returns-2
@@ -43,4 +46,4 @@ returns-2 c =
     }
 
 pub narrowed-spec : {M : Type 1} → statement M
-narrowed-spec = tie.close (tie.spec with-requires lower-requires higher-requires returns returns-2)
+narrowed-spec = tie.close (tie.spec with-requires sub-lower lower-requires higher-requires returns returns-2)

@@ -1,4 +1,4 @@
--- Below the first or not below the last.
+-- Below the first or past the last.
 use borrow.Author.Tests.{lt-ltb, le-ltb}
 use Rattle.enabled.proofs.outside.Statement.{statement}
 use Rattle.enabled.proofs.outside.Tie as tie

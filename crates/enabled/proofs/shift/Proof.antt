@@ -1,11 +1,11 @@
 -- Outside of the level the rows are made anew, and else they stand.
 use mathlib.Core.Bool.{Bool, true, false, _||_}
 use mathlib.Core.Path.{_≡_, refl, sym, _∙_}
-use Prim.Native.Nat.{ℕ, _≤_, _<_}
+use Prim.Native.Nat.{ℕ, _≤_}
 use native.Mathlib.Omega.{arith}
-use lib.Dec.{leb, ltb}
+use lib.Dec.{ltb}
 use borrow.Author.Needs.{needs}
-use borrow.Author.Tests.{ltb-false, leb-false}
+use borrow.Author.Tests.{ltb-false}
 use Rattle.meaning.proofs.Bool.{not-both}
 use Rattle.enabled.proofs.Held.{but-one}
 use Rattle.enabled.proofs.shift.Statement.{statement}
@@ -60,11 +60,11 @@ returns-2 c =
       start .pre .1 .1 .1 .1,
     )
   where
-    stays : (k from upto : ℕ) → (ltb k from || leb upto k) ≡ false → (from ≤ k) × (k < upto)
+    stays : (k from upto : ℕ) → (ltb k from || ltb upto k) ≡ false → (from ≤ k) × (k ≤ upto)
     stays k from upto e = go (ltb k from) refl e
       where
-        go : (b : Bool) → ltb k from ≡ b → (b || leb upto k) ≡ false → (from ≤ k) × (k < upto)
-        go false q e = (ltb-false k from q, leb-false upto k e)
+        go : (b : Bool) → ltb k from ≡ b → (b || ltb upto k) ≡ false → (from ≤ k) × (k ≤ upto)
+        go false q e = (ltb-false k from q, ltb-false upto k e)
         go true q e = not-both refl e
 
 pub shift-spec : {M : Type 1} → statement M

@@ -3,7 +3,6 @@ use mathlib.Core.Bool.{false}
 use mathlib.Core.Path.{_≡_, sym, _∙_}
 use lib.Dec.{ltb}
 use borrow.Author.Needs.{needs}
-use Rattle.enabled.proofs.Held.{at-most}
 use Rattle.settle.proofs.mark.Statement.{statement}
 use Rattle.settle.proofs.mark.Tie as tie
 
@@ -21,10 +20,10 @@ still : (c : tie.Else1) → ltb (c .before .before .args .rest) (c .before .befo
 still c = sym (c .before .below .ensures) ∙ c .if1 .left
 
 returns-2 : tie.Need-returns-2
-returns-2 c = rw (still (c .before .before), at-most _ _, sym (c .before .below2 .ensures) ∙ c .if2 .taken)
+returns-2 c = rw (still (c .before .before), sym (c .before .below2 .ensures) ∙ c .if2 .taken)
 
 returns-3 : tie.Need-returns-3
-returns-3 c = rw (still (c .before .before), at-most _ _, sym (c .before .below2 .ensures) ∙ c .if2 .left)
+returns-3 c = rw (still (c .before .before), sym (c .before .below2 .ensures) ∙ c .if2 .left)
 
 pub mark-spec : {M : Type 1} → statement M
 mark-spec = tie.close (tie.spec below-requires returns below-requires-2 returns-2 returns-3)
