@@ -12,7 +12,8 @@ use Rattle.meaning.specs.Defined.{bad-length}
 use Rattle.meaning.proofs.Bool.{or-false-right}
 use Rattle.table.specs.Index.{extent-of}
 use Rattle.table.proofs.Reach.{below-of}
-use Rattle.engine.specs.Said.{Fitting}
+use Rattle.table.proofs.Firsts.{no-more-transitions, few-transitions}
+use Rattle.engine.specs.Said.{Fitting, Ranked}
 use Rattle.engine.proofs.Verdict.{few-records}
 
 -- A table whose length is right has no more than 8,192 bytes.
@@ -21,30 +22,29 @@ unfolding bad-length
 not-long bs e = ltb-false 8192 (length bs) (or-false-right (not (eqb (length bs % 8) 0)) (ltb 8192 (length bs)) e)
 
 -- Rows for so many eights of numbers are enough where the reach is among these, and so many links where there are no more records.
-fits-within : (bs : List ℕ) {reach : ℕ} (eighths links : ℕ) → reach ≡ extent-of (table bs) → reach ≤ 8 * eighths → 0 < eighths → table bs .records ≤ links
-    → Fitting bs reach (8 * (8 * eighths)) (8 * eighths) (8 * eighths) links
-fits-within bs eighths links reached low any few =
-    record {
-      extent = reached;
-      roomy = λ r l h. omega (arith, below-of (table bs) reached r l);
-      rows-are = refl;
-      wants-are = refl;
-      links-are = few;
-      eighths = eighths;
-      whole = refl;
-      any = omega (arith, any);
-    }
+pub small-fits : (bs : List ℕ) {reach : ℕ} (eighths links : ℕ) → reach ≡ extent-of (table bs) → (reach ≤ 8 * eighths) × (table bs .records ≤ links)
+    → Fitting bs reach (8 * (8 * eighths)) (8 * eighths) (8 * eighths) links × Ranked reach (8 * eighths) (8 * eighths) (8 * eighths)
+unfolding extent-of
+small-fits bs {reach} eighths links reached enough = (
+  record {
+    extent = reached;
+    roomy = λ r l h. omega (arith, below-of (table bs) reached r l, enough .0);
+    rows-are = refl;
+    wants-are = refl;
+    links-are = enough .1;
+    eighths = eighths;
+    whole = refl;
+    any = omega (arith, reached, enough .0);
+  },
+  (omega (arith, no-more-transitions reach, enough .0), omega (arith, no-more-transitions reach, enough .0), omega (arith, no-more-transitions reach, enough .0)),
+)
 
--- Rows for 32 numbers and 256 links for a small table, for 64 and 512 for one of the middle, and for 128 and 1,024 for any.
-pub small-fits : (bs : List ℕ) {reach : ℕ} → reach ≡ extent-of (table bs) → reach ≤ 32 → table bs .records ≤ 256 → Fitting bs reach 256 32 32 256
-small-fits bs reached low few = fits-within bs 4 256 reached low (omega arith) few
-
-pub middle-fits : (bs : List ℕ) {reach : ℕ} → reach ≡ extent-of (table bs) → reach ≤ 64 → table bs .records ≤ 512 → Fitting bs reach 512 64 64 512
-middle-fits bs reached low few = fits-within bs 8 512 reached low (omega arith) few
-
-pub large-fits : (bs : List ℕ) {reach : ℕ} → reach ≡ extent-of (table bs) → bad-length bs ≡ false → Fitting bs reach 1024 128 128 1024
-large-fits bs reached right =
-    record { extent = reached; roomy = λ r l h. h; rows-are = refl; wants-are = refl; links-are = few-records bs right; eighths = 16; whole = refl; any = omega arith }
+-- Rows for 128 numbers, 64 transitions and 1,024 links are enough for any table.
+pub large-fits : (bs : List ℕ) {reach : ℕ} → reach ≡ extent-of (table bs) → bad-length bs ≡ false → Fitting bs reach 1024 128 128 1024 × Ranked reach 64 64 64
+large-fits bs {reach} reached right = (
+  record { extent = reached; roomy = λ r l h. h; rows-are = refl; wants-are = refl; links-are = few-records bs right; eighths = 16; whole = refl; any = omega arith },
+  (few-transitions reach, few-transitions reach, few-transitions reach),
+)
 
 -- What is enough stays so while the rows keep their number.
 pub still-fits : {bs : List ℕ} {reach rows numbers wants links rows′ numbers′ wants′ links′ : ℕ} → Fitting bs reach rows numbers wants links

@@ -2,7 +2,7 @@
 use mathlib.Core.List.{List, _++_, append-assoc}
 use mathlib.Core.Logic.{_≢_}
 use mathlib.Core.Path.{_≡_, refl, sym, ap, _∙_}
-use Prim.Native.Nat.{ℕ, _+_}
+use Prim.Native.Nat.{ℕ, _+_, _≤_}
 use lib.ListN.{length}
 use Rattle.meaning.specs.Below.{first}
 use Rattle.meaning.specs.Table.{table}
@@ -16,6 +16,7 @@ use Rattle.meaning.proofs.Tables.{table-refusing}
 use Rattle.meaning.proofs.Run.{verdict, run-refused-leaves, run-goes-on}
 use Rattle.cycle.proofs.Facts.{sound, fine}
 use Rattle.table.specs.declared.Pass.{Pass}
+use Rattle.table.specs.Index.{transitions-below}
 use Rattle.net.specs.Pass.{Arcs, Others}
 use Rattle.net.proofs.Filing.{gathered}
 use Rattle.timing.specs.declared.Intervals.{Intervals}
@@ -37,6 +38,7 @@ pub record Accepted (bs : List ℕ) (s : Pass) (j : Judged) (reach : ℕ) (index
   pub others : Others (table bs) (s .at) truths sorts a b
   pub zero-is : j .number ≡ 0
   pub fits : Fitting bs reach (length index) (length takers) (length truths) (length next)
+  pub ranked : transitions-below reach ≤ length higher
 
 module _ {bs : List ℕ} {s : Pass} {j : Judged} {reach : ℕ} {index higher takers truths heads next sorts a b : List ℕ}
     (known : Accepted bs s j reach index higher takers truths heads next sorts a b) where
@@ -77,6 +79,7 @@ module _ {bs : List ℕ} {s : Pass} {j : Judged} {reach : ℕ} {index higher tak
         index-long = known .fits .rows-are;
         truths-long = known .fits .wants-are;
         links = known .fits .links-are;
+        higher-long = known .ranked;
       }
 
 module _ (bs img ws report : List ℕ) where

@@ -9,8 +9,7 @@ ghost use Prim.Native.Nat.{_≤_};
 ghost use Rattle.meaning.specs.Table.{table};
 ghost use Rattle.meaning.specs.Defined.{bad-length};
 ghost use Rattle.meaning.specs.Promise.{Checked, Ran};
-ghost use Rattle.table.specs.Index.{extent-of};
-ghost use Rattle.engine.specs.Said.{said};
+ghost use Rattle.engine.specs.Said.{said, Fitting, Ranked};
 
 // Are so many numbers and so many records enough for a table of this reach?
 fn holds(t: &[u8], reach: usize, numbers: usize, records: usize) -> bool
@@ -47,7 +46,7 @@ pub fn check(t: &[u8]) -> Answer
 // The same with rows for 8 numbers and links for 64 records; for 16 and 128; for 32 and 256; for 64 and 512; and for all that there can be.
 fn check_8(t: &[u8], reach: usize) -> Answer
     requires { ⌜ bad-length (now t) ≡ false ⌝ }
-    requires { ⌜ (reach ≡ extent-of (table (now t))) × (reach ≤ 8) × (table (now t) .records ≤ 64) ⌝ }
+    requires { ⌜ Fitting (now t) reach 64 8 8 64 × Ranked reach 8 8 8 ⌝ }
     ensures { λ a. ⌜ Checked (now (t .entry)) (said a) ⌝ }
 {
     let mut index = [0u64; 64];
@@ -72,7 +71,7 @@ fn check_8(t: &[u8], reach: usize) -> Answer
 
 fn check_16(t: &[u8], reach: usize) -> Answer
     requires { ⌜ bad-length (now t) ≡ false ⌝ }
-    requires { ⌜ (reach ≡ extent-of (table (now t))) × (reach ≤ 16) × (table (now t) .records ≤ 128) ⌝ }
+    requires { ⌜ Fitting (now t) reach 128 16 16 128 × Ranked reach 16 16 16 ⌝ }
     ensures { λ a. ⌜ Checked (now (t .entry)) (said a) ⌝ }
 {
     let mut index = [0u64; 128];
@@ -97,7 +96,7 @@ fn check_16(t: &[u8], reach: usize) -> Answer
 
 fn check_32(t: &[u8], reach: usize) -> Answer
     requires { ⌜ bad-length (now t) ≡ false ⌝ }
-    requires { ⌜ (reach ≡ extent-of (table (now t))) × (reach ≤ 32) × (table (now t) .records ≤ 256) ⌝ }
+    requires { ⌜ Fitting (now t) reach 256 32 32 256 × Ranked reach 32 32 32 ⌝ }
     ensures { λ a. ⌜ Checked (now (t .entry)) (said a) ⌝ }
 {
     let mut index = [0u64; 256];
@@ -122,7 +121,7 @@ fn check_32(t: &[u8], reach: usize) -> Answer
 
 fn check_64(t: &[u8], reach: usize) -> Answer
     requires { ⌜ bad-length (now t) ≡ false ⌝ }
-    requires { ⌜ (reach ≡ extent-of (table (now t))) × (reach ≤ 64) × (table (now t) .records ≤ 512) ⌝ }
+    requires { ⌜ Fitting (now t) reach 512 64 64 512 × Ranked reach 64 64 64 ⌝ }
     ensures { λ a. ⌜ Checked (now (t .entry)) (said a) ⌝ }
 {
     let mut index = [0u64; 512];
@@ -147,7 +146,7 @@ fn check_64(t: &[u8], reach: usize) -> Answer
 
 fn check_128(t: &[u8], reach: usize) -> Answer
     requires { ⌜ bad-length (now t) ≡ false ⌝ }
-    requires { ⌜ reach ≡ extent-of (table (now t)) ⌝ }
+    requires { ⌜ Fitting (now t) reach 1024 128 128 1024 × Ranked reach 64 64 64 ⌝ }
     ensures { λ a. ⌜ Checked (now (t .entry)) (said a) ⌝ }
 {
     let mut index = [0u64; 1024];
@@ -194,7 +193,7 @@ pub fn run(t: &[u8], image: &mut [u8], words: &[u8], report: &mut [u8]) -> Answe
 // The same with rows of each size.
 fn run_8(t: &[u8], image: &mut [u8], words: &[u8], report: &mut [u8], reach: usize) -> Answer
     requires { ⌜ bad-length (now t) ≡ false ⌝ }
-    requires { ⌜ (reach ≡ extent-of (table (now t))) × (reach ≤ 8) × (table (now t) .records ≤ 64) ⌝ }
+    requires { ⌜ Fitting (now t) reach 64 8 8 64 × Ranked reach 8 8 8 ⌝ }
     ensures { λ a. ⌜ Ran (now (t .entry)) (now (image .entry)) (now (words .entry)) (now (report .entry)) (said a) (now (image .exit)) (now (report .exit)) ⌝ }
 {
     let mut index = [0u64; 64];
@@ -222,7 +221,7 @@ fn run_8(t: &[u8], image: &mut [u8], words: &[u8], report: &mut [u8], reach: usi
 
 fn run_16(t: &[u8], image: &mut [u8], words: &[u8], report: &mut [u8], reach: usize) -> Answer
     requires { ⌜ bad-length (now t) ≡ false ⌝ }
-    requires { ⌜ (reach ≡ extent-of (table (now t))) × (reach ≤ 16) × (table (now t) .records ≤ 128) ⌝ }
+    requires { ⌜ Fitting (now t) reach 128 16 16 128 × Ranked reach 16 16 16 ⌝ }
     ensures { λ a. ⌜ Ran (now (t .entry)) (now (image .entry)) (now (words .entry)) (now (report .entry)) (said a) (now (image .exit)) (now (report .exit)) ⌝ }
 {
     let mut index = [0u64; 128];
@@ -250,7 +249,7 @@ fn run_16(t: &[u8], image: &mut [u8], words: &[u8], report: &mut [u8], reach: us
 
 fn run_32(t: &[u8], image: &mut [u8], words: &[u8], report: &mut [u8], reach: usize) -> Answer
     requires { ⌜ bad-length (now t) ≡ false ⌝ }
-    requires { ⌜ (reach ≡ extent-of (table (now t))) × (reach ≤ 32) × (table (now t) .records ≤ 256) ⌝ }
+    requires { ⌜ Fitting (now t) reach 256 32 32 256 × Ranked reach 32 32 32 ⌝ }
     ensures { λ a. ⌜ Ran (now (t .entry)) (now (image .entry)) (now (words .entry)) (now (report .entry)) (said a) (now (image .exit)) (now (report .exit)) ⌝ }
 {
     let mut index = [0u64; 256];
@@ -278,7 +277,7 @@ fn run_32(t: &[u8], image: &mut [u8], words: &[u8], report: &mut [u8], reach: us
 
 fn run_64(t: &[u8], image: &mut [u8], words: &[u8], report: &mut [u8], reach: usize) -> Answer
     requires { ⌜ bad-length (now t) ≡ false ⌝ }
-    requires { ⌜ (reach ≡ extent-of (table (now t))) × (reach ≤ 64) × (table (now t) .records ≤ 512) ⌝ }
+    requires { ⌜ Fitting (now t) reach 512 64 64 512 × Ranked reach 64 64 64 ⌝ }
     ensures { λ a. ⌜ Ran (now (t .entry)) (now (image .entry)) (now (words .entry)) (now (report .entry)) (said a) (now (image .exit)) (now (report .exit)) ⌝ }
 {
     let mut index = [0u64; 512];
@@ -306,7 +305,7 @@ fn run_64(t: &[u8], image: &mut [u8], words: &[u8], report: &mut [u8], reach: us
 
 fn run_128(t: &[u8], image: &mut [u8], words: &[u8], report: &mut [u8], reach: usize) -> Answer
     requires { ⌜ bad-length (now t) ≡ false ⌝ }
-    requires { ⌜ reach ≡ extent-of (table (now t)) ⌝ }
+    requires { ⌜ Fitting (now t) reach 1024 128 128 1024 × Ranked reach 64 64 64 ⌝ }
     ensures { λ a. ⌜ Ran (now (t .entry)) (now (image .entry)) (now (words .entry)) (now (report .entry)) (said a) (now (image .exit)) (now (report .exit)) ⌝ }
 {
     let mut index = [0u64; 1024];

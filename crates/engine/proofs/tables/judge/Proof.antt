@@ -1,9 +1,9 @@
 -- `engine::tables::judge` meets its contract: each return is a stage's verdict, behind stages that found nothing.
 use mathlib.Core.List.{List}
 use mathlib.Core.Path.{refl}
-use Prim.Native.Nat.{ℕ, _*_, _≤_}
+use Prim.Native.Nat.{ℕ, _*_, _^_, _≤_, _<_}
 use native.Mathlib.Omega.{arith}
-use lib.ListN.{length}
+use lib.ListN.{length, getD}
 use Rattle.meaning.specs.Table.{table}
 use Rattle.meaning.specs.Answer.{Check}
 use Rattle.table.proofs.Firsts.{few-transitions, no-more-transitions}
@@ -13,14 +13,14 @@ use Rattle.engine.specs.Said.{Fitting}
 use Rattle.engine.proofs.Stages.{from-6, from-7, from-8, from-9}
 use Rattle.engine.proofs.Verdict.{refusal, Faultless, Past, Ends, verdict-2, verdict-5, verdict-6, verdict-7, verdict-8}
 use Rattle.engine.proofs.Verdict.{no-fault, all-known, not-empty, none-lone, no-circle, at-the-end}
-use Rattle.engine.proofs.Verdict.{turned-is, gathers, chains-all, both-below, arcs-below}
+use Rattle.engine.proofs.Verdict.{turned-is, gathers, chains-all, both-below, arcs-below, pairs-low, takers-low}
 use borrow.Author.Needs.{needs}
 use Rattle.engine.proofs.tables.judge.Statement.{statement}
 use Rattle.engine.proofs.tables.judge.Tie as tie
 
 -- The way back from each stage: to the one before it, and to the call.
 abbrev start : tie.Else1 → tie.Start
-start c = c .before .before .before .before .before .before
+start c = c .before .before .before .before .before .before .before .before .before
 
 abbrev one : tie.Else2 → tie.Else1
 one c = c .before .before .before
@@ -35,16 +35,16 @@ abbrev four : tie.After-transitions → tie.Else4
 four c = c .before
 
 abbrev closed : tie.Else5 → tie.After-close
-closed c = c .before .before .before
+closed c = c .before .before .before .before .before .before .before
 
 abbrev counted : tie.After-close → tie.After-transitions
 counted c = c .before .before .before
 
-abbrev five : tie.After-conflicts2 → tie.Else5
+abbrev five : tie.After-conflicts → tie.Else5
 five c = c .before .before
 
-abbrev conflicted : tie.After-clash → tie.After-conflicts2
-conflicted c = c .before .before .before .before
+abbrev conflicted : tie.After-clash → tie.After-conflicts
+conflicted c = c .before .before .before .before .before .before
 
 abbrev called : tie.Else5 → tie.Start
 called c = start (one (two (three (four (counted (closed c))))))
@@ -56,10 +56,14 @@ Fine s = Faultless (s .args .t .now) (s .args .pass) (s .args .reach) (s .args .
 abbrev Behind : tie.Start → (List ℕ → List Check) → Type 0
 Behind s from = Past (s .args .t .now) (s .args .pass) (s .args .reach) (s .args .index .now) (from (s .args .t .now))
 
+-- The rows are enough.
+abbrev fitting : (s : tie.Start) → Fitting (s .args .t .now) (s .args .reach) (length (s .args .index .now)) (length (s .args .takers .now)) (length (s .args .truths .now)) (length (s .args .next .now))
+fitting s = s .pre .1 .1 .1 .1 .1 .0
+
 -- Behind 4, 5, 6, 7 and 8.
 behind-4 : (c : tie.Else1) → Fine (start c)
 unfolding table
-behind-4 c = no-fault _ (start c .pre .0) (start c .pre .1 .0) (start c .pre .1 .1 .1 .1 .1 .extent) (c .if1 .left)
+behind-4 c = no-fault _ (start c .pre .0) (start c .pre .1 .0) (fitting (start c) .extent) (c .if1 .left)
 
 behind-5 : (c : tie.Else2) → Behind (start (one c)) from-6
 unfolding table
@@ -74,10 +78,7 @@ behind-7 c = none-lone (behind-6 (three c)) (c .before .first-lone .ensures) (c 
 behind-8 : (c : tie.Else5) → Behind (called c) from-9
 behind-8 c = no-circle (behind-7 (four (counted (closed c)))) (closed c .close .ensures .0 .0) (c .before .circle .ensures) (c .if5 .left)
 
--- The rows are enough, so the index has its eight for every number below the reach.
-abbrev fitting : (s : tie.Start) → Fitting (s .args .t .now) (s .args .reach) (length (s .args .index .now)) (length (s .args .takers .now)) (length (s .args .truths .now)) (length (s .args .next .now))
-fitting s = s .pre .1 .1 .1 .1 .1
-
+-- So the index has its eight for every number below the reach.
 rows-in : (c : tie.Else1) → 8 * start c .args .reach ≤ length (start c .args .index .now)
 rows-in c =
     let fit = fitting (start c) in
@@ -89,7 +90,7 @@ wide-requires c κs = search needs
 returns : tie.Need-returns
 unfolding table
 returns c =
-    let call = c .before .before .before .before .before .before .before in
+    let call = c .before .before .before .before .before .before .before .before .before .before in
     let v = verdict-2 _ (call .pre .0) (call .pre .1 .0) (c .before .if1 .taken) in
     refusal (rw (c .wide .ensures) (v .0)) (rw (c .wide .ensures) (v .1))
 
@@ -124,20 +125,29 @@ close-requires c κs =
     let fine = behind-7 (four here) .fine in
     let few = here .transitions .ensures in
     let call = start (one (two (three (four here)))) in
-    let reach : ℕ = call .args .reach in (
+    let reach : ℕ = call .args .reach in
+    let empty = call .pre .1 .1 .1 .1 .0 in
+    let ranked = call .pre .1 .1 .1 .1 .1 .1 in
+    let words : (q : ℕ) → getD (call .args .index .now) q 0 < 2 ^ 64 = λ q. omega (arith, one (two (three (four here))) .before .before .before .before .before .before .before .shared-slice-known2 .given q) in (
       (
         record { most = omega (arith, few, few-transitions reach); none = no-pair (fine .reaching) few },
         omega (arith, few, no-more-transitions reach, rows-in (one (two (three (four here))))),
       ),
-      call .pre .1 .1 .1 .1 .0,
+      (
+        λ u t h e. omega (arith, few, pairs-low (behind-7 (four here)) words u t (omega (arith, h, few, few-transitions reach)) e),
+        (empty .0, empty .1, omega (arith, few, ranked .0), omega (arith, few, ranked .1)),
+      ),
     )
 
 circle-requires : tie.Need-circle-requires
-circle-requires c κs = c .before .close .ensures .0 .1
+circle-requires c κs =
+    let close = c .before .before .before .before .before in
+    let few = counted close .transitions .ensures in
+    (close .close .ensures .0 .1, omega (arith, few, c .before .before .before .before .below .given, start (one (two (three (four (counted close))))) .pre .1 .1 .1 .1 .1 .1 .0))
 
 returns-5 : tie.Need-returns-5
 returns-5 c =
-    let rows = c .before .before .before in
+    let rows = c .before .before .before .before .before .before .before in
     refusal (omega arith) (verdict-8 (behind-7 (four (counted rows))) (rows .close .ensures .0 .0) (c .before .circle .ensures) (c .if5 .taken))
 
 conflicts-requires : tie.Need-conflicts-requires
@@ -145,16 +155,31 @@ conflicts-requires c κs =
     let fine = behind-8 (c .before) .fine in
     let call = called (c .before) in
     let room : call .args .reach ≤ length (call .args .takers .now) = fine .least _ (fitting call .any) (fitting call .roomy) in
-    ((gathered-blank (fine .below) (fine .reaching .most) (gathers fine (call .pre .1 .1 .0 .taking)), room), refl)
+    let takers = gathers fine (call .pre .1 .1 .0 .taking) in
+    let words : (q : ℕ) → getD (call .args .takers .now) q 0 < 2 ^ 64 =
+    λ q. omega (arith, one (two (three (four (counted (closed (c .before)))))) .before .before .before .shared-slice-known3 .given q) in (
+      (gathered-blank (fine .below) (fine .reaching .most) takers, room),
+      (
+        call .pre .1 .1 .1 .1 .0 .2,
+        λ p u h e. omega (arith, takers-low (behind-8 (c .before)) words takers p u h e, call .pre .1 .1 .1 .1 .1 .1 .2),
+      ),
+    )
 
 clash-requires : tie.Need-clash-requires
 clash-requires c κs =
-    let pairs = c .before .before .before in
+    let pairs = c .before .before .before .before .before in
+    let here = five pairs in
+    let ranked = called here .pre .1 .1 .1 .1 .1 .1 in
     let arcs = called (five pairs) .pre .1 .1 .0 in
     let past = behind-8 (five pairs) in
-    let rows = pairs .conflicts2 .ensures in
+    let rows = pairs .conflicts .ensures in
     let few = counted (closed (five pairs)) .transitions .ensures in (
-      (rows .size, conflicts-blank (arcs-below past) few (gathers (past .fine) (arcs .taking)) rows),
+      (
+        conflicts-blank (arcs-below past) few (gathers (past .fine) (arcs .taking)) rows,
+        omega (arith, few, ranked .2, c .before .before .before .before .conflicts2 .given),
+        omega (arith, few, ranked .0, here .before .before .before .before .before .before .below .given),
+        omega (arith, few, ranked .1, here .before .before .before .before .above .given),
+      ),
       (chains-all (past .fine) (arcs .chains), fitting (called (five pairs)) .links-are),
     )
 
@@ -164,18 +189,18 @@ ends c =
     let pairs = conflicted c in
     let filed = called (five pairs) .pre .1 .1 in
     let ranks = closed (five pairs) .close .ensures in
-    at-the-end (behind-8 (five pairs)) (ranks .0 .0) (ranks .1) (filed .0 .taking) (filed .1 .0) (pairs .conflicts2 .ensures) (c .clash .ensures)
+    at-the-end (behind-8 (five pairs)) (ranks .0 .0) (ranks .1) (filed .0 .taking) (filed .1 .0) (pairs .conflicts .ensures) (c .clash .ensures)
 
 returns-6 : tie.Need-returns-6
-returns-6 c = refusal (omega arith) (ends (c .before) .refuses (c .if6 .taken))
+returns-6 c = refusal (omega arith) (ends (c .before .before .before) .refuses (c .if6 .taken))
 
 returns-7 : tie.Need-returns-7
 returns-7 c =
-    let here = five (conflicted (c .before)) in
+    let here = five (conflicted (c .before .before .before)) in
     let past = behind-8 here in
     let ranks = closed here .close .ensures in
     record {
-      answer = ends (c .before) .accepts (c .if6 .left);
+      answer = ends (c .before .before .before) .accepts (c .if6 .left);
       whole = λ z. past .fine .whole;
       indexed = λ z. past .fine .clean .index;
       reaches = λ z. past .fine .reaching;
@@ -200,8 +225,16 @@ judge-spec =
     transitions-requires
     close-requires
     circle-requires
+    (λ c. search needs)
+    (λ c. search needs)
     returns-5
     conflicts-requires
     clash-requires
+    (λ c. search needs)
+    (λ c. search needs)
+    (λ c. search needs)
     returns-6
+    (λ c. search needs)
+    (λ c. search needs)
+    (λ c. search needs)
     returns-7)
