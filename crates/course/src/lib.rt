@@ -98,7 +98,7 @@ fn cycles(
     takers: &[u64],
     low: &[u64],
     high: &[u64],
-    curbs: &[u64; 128],
+    curbs: &[u64],
     heads: &[u16; 256],
     next: &[u32],
     truths: &[u64],
@@ -222,8 +222,8 @@ fn keep(
 }
 
 // The cycles of a call whose checks are passed: what the rows leave out is made of them, then one cycle a word, then the image is written. No number of a
-// place or a transition is at the reach or past it; `higher` has those above each transition, and of them its rivals are left. The arrays for the input arcs
-// and the rows that are kept of each place are lent empty, with a row for every place below the reach; so are the places of each transition's arcs, with a
+// place or a transition is at the reach or past it; `higher` has those above each transition, and of them its rivals are left. The arrays for the input arcs,
+// the rows of inhibitor arcs and those that are kept of each place are lent empty, with a row for every place below the reach; so are the places of each transition's arcs, with a
 // row for every transition.
 pub fn course(
     t: &[u8],
@@ -237,6 +237,7 @@ pub fn course(
     higher: &mut [u64],
     w: &mut [[u16; 64]],
     s: &mut [[u8; 64]],
+    curbs: &mut [u64],
     low: &mut [u64],
     high: &mut [u64],
     held: &mut [u64],
@@ -253,13 +254,12 @@ pub fn course(
     requires { ⌜ now s ≡ replicate (length (now w)) (replicate 64 0) ⌝ }
     requires { ⌜ Housing reach (length (now w)) ⌝ }
     requires { ⌜ (now low ≡ replicate (length (now low)) 0) × (now high ≡ replicate (length (now high)) 0) × (transitions-below reach ≤ length (now low)) × (transitions-below reach ≤ length (now high)) ⌝ }
-    requires { ⌜ (now held ≡ replicate (length (now w)) 0) × (now lacks ≡ replicate (length (now w)) 0) × (now shown ≡ replicate (length (now w)) 0) ⌝ }
+    requires { ⌜ (now curbs ≡ replicate (length (now w)) 0) × (now held ≡ replicate (length (now w)) 0) × (now lacks ≡ replicate (length (now w)) 0) × (now shown ≡ replicate (length (now w)) 0) ⌝ }
     requires { ⌜ Ready (now t) (now image) (now words) (now report) ⌝ }
     ensures { λ e. ⌜ Ends (now (t .entry)) (now (image .entry)) (now (words .entry)) (now (report .entry)) e (now (image .exit)) (now (report .exit)) ⌝ }
 {
-    let mut curbs = [0u64; 128];
-    let gain = net::laying::lay_arcs(t, w, s, &mut curbs, low, high);
     let fewer = table::transitions(reach);
+    let gain = net::laying::lay_arcs(t, w, s, curbs, low, high, heads, next, fewer);
     let lower = fire::rivals(takers, low, high, higher, fewer);
     let n = enabled::bound(index, reach);
     let eights = enabled::eights(reach);
@@ -300,7 +300,7 @@ pub fn course(
         takers,
         low,
         high,
-        &curbs,
+        curbs,
         heads,
         next,
         truths,

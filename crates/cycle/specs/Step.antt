@@ -27,12 +27,13 @@ use Rattle.image.specs.Held.{held, Holds}
 use Rattle.cycle.specs.declared.Outcome.{Outcome}
 
 -- Each array has a row for every place and transition of these eights, and the index eight; whoever has rivals has its rows of them and of its places.
-pub record Rooms (eights lower : ℕ) (index : List ℕ) (w s : List (List ℕ)) (takers truths rivals low high : List ℕ) : Type 0 where
+pub record Rooms (eights lower : ℕ) (index : List ℕ) (w s : List (List ℕ)) (takers truths curbs rivals low high : List ℕ) : Type 0 where
   pub index-rows : 8 * (8 * eights) ≤ length index
   pub weight-rows : 8 * eights ≤ length w
   pub sort-rows : 8 * eights ≤ length s
   pub taker-rows : 8 * eights ≤ length takers
   pub truth-rows : 8 * eights ≤ length truths
+  pub curb-rows : 8 * eights ≤ length curbs
   pub rival-rows : (t : ℕ) → t < 64 → bit lower t ≡ true → (t < length rivals) × (t < length low) × (t < length high)
 
 -- The rows are those of the accepted table that the bytes spell, whose numbers fill so many eights. The rivals of a transition are of those above it, whose
@@ -56,7 +57,7 @@ pub record Net-of (bs : List ℕ) (known timed conditional lower eights : ℕ) (
   pub inputs : Inputs-of index (record { low = low; high = high })
   pub within : Empty-from index (8 * eights)
   pub below : (r : ℕ) → r < table bs .records → table bs .one r < 8 * eights
-  pub rooms : Rooms eights lower index w s takers truths rivals low high
+  pub rooms : Rooms eights lower index w s takers truths curbs rivals low high
   pub links : table bs .records ≤ length next
   pub curbed : Curbed index s curbs
   pub chains : Chained (table bs) heads next

@@ -62,7 +62,7 @@ pub fn step(
     takers: &[u64],
     low: &[u64],
     high: &[u64],
-    curbs: &[u64; 128],
+    curbs: &[u64],
     heads: &[u16; 256],
     next: &[u32],
     truths: &[u64],

@@ -83,6 +83,7 @@ pub fn play(
     if reach <= 8 {
         let mut w = [[0u16; 64]; 8];
         let mut s = [[0u8; 64]; 8];
+        let mut curbs = [0u64; 8];
         let mut low = [0u64; 8];
         let mut high = [0u64; 8];
         let mut held = [0u64; 8];
@@ -100,6 +101,7 @@ pub fn play(
             above,
             &mut w,
             &mut s,
+            &mut curbs,
             &mut low,
             &mut high,
             &mut held,
@@ -115,6 +117,7 @@ pub fn play(
     if reach <= 16 {
         let mut w = [[0u16; 64]; 16];
         let mut s = [[0u8; 64]; 16];
+        let mut curbs = [0u64; 16];
         let mut low = [0u64; 16];
         let mut high = [0u64; 16];
         let mut held = [0u64; 16];
@@ -132,6 +135,7 @@ pub fn play(
             above,
             &mut w,
             &mut s,
+            &mut curbs,
             &mut low,
             &mut high,
             &mut held,
@@ -147,6 +151,7 @@ pub fn play(
     if reach <= 32 {
         let mut w = [[0u16; 64]; 32];
         let mut s = [[0u8; 64]; 32];
+        let mut curbs = [0u64; 32];
         let mut low = [0u64; 32];
         let mut high = [0u64; 32];
         let mut held = [0u64; 32];
@@ -164,6 +169,7 @@ pub fn play(
             above,
             &mut w,
             &mut s,
+            &mut curbs,
             &mut low,
             &mut high,
             &mut held,
@@ -179,6 +185,7 @@ pub fn play(
     if reach <= 64 {
         let mut w = [[0u16; 64]; 64];
         let mut s = [[0u8; 64]; 64];
+        let mut curbs = [0u64; 64];
         let mut low = [0u64; 64];
         let mut high = [0u64; 64];
         let mut held = [0u64; 64];
@@ -196,6 +203,7 @@ pub fn play(
             above,
             &mut w,
             &mut s,
+            &mut curbs,
             &mut low,
             &mut high,
             &mut held,
@@ -210,6 +218,7 @@ pub fn play(
     }
     let mut w = [[0u16; 64]; 128];
     let mut s = [[0u8; 64]; 128];
+    let mut curbs = [0u64; 128];
     let mut low = [0u64; 64];
     let mut high = [0u64; 64];
     let mut held = [0u64; 128];
@@ -227,6 +236,7 @@ pub fn play(
         above,
         &mut w,
         &mut s,
+        &mut curbs,
         &mut low,
         &mut high,
         &mut held,

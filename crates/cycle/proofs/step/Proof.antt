@@ -17,7 +17,7 @@ use Rattle.cycle.proofs.step.Tie as tie
 
 -- The way back: from the settling to the overfull place, from there to the tally, to the falling edge, to what the places do, and to the start.
 abbrev begun : tie.After-gather → tie.Start
-begun c = c .before .before .before .before .before .before .before .before .before .before .before .before .before .before
+begun c = c .before .before .before .before .before .before .before .before .before .before .before .before .before .before .before
 
 abbrev seen : tie.After-fall → tie.After-gather
 seen c = c .before .before .before .before .before .before
@@ -38,11 +38,11 @@ abbrev start : tie.After-tally → tie.Start
 start c = begun (seen (fallen c))
 
 mul-n : tie.Need-mul-n
-mul-n c = omega (arith, c .before .before .before .before .before .before .before .before .before .before .before .pre .0 .within .within)
+mul-n c = omega (arith, c .before .before .before .before .before .before .before .before .before .before .before .before .pre .0 .within .within)
 
 gather-requires : tie.Need-gather-requires
 gather-requires c κs =
-    let pre = c .before .before .before .before .before .before .before .before .before .before .before .before .before .pre in
+    let pre = c .before .before .before .before .before .before .before .before .before .before .before .before .before .before .pre in
     let sizes = pre .1 .1 .1 .0 .levels .sizes in
     (omega (arith, pre .0 .rooms .weight-rows, sizes .0), omega (arith, pre .0 .rooms .weight-rows, sizes .1))
 
@@ -181,7 +181,7 @@ settle-requires c κs =
         still net here,
         (
           (pre .1 .1 .0 .places, sizes .0, sizes .1, ready .room .0, ready .room .1),
-          ((net .curbed, weighty net, net .rooms .weight-rows, net .rooms .index-rows), (ready .levels, (lacks net here, ready .wanting))),
+          ((net .curbed, weighty net, net .rooms .weight-rows, net .rooms .curb-rows, net .rooms .index-rows), (ready .levels, (lacks net here, ready .wanting))),
         ),
       ),
     )
