@@ -112,7 +112,7 @@ fn relevel(
     p: usize,
     tokens: u32,
     index: &[u64],
-    curbs: &[u64; 128],
+    curbs: &[u64],
     w: &[[u16; 64]],
     s: &[[u8; 64]],
     held: &mut [u64],
@@ -122,7 +122,7 @@ fn relevel(
     upto: &mut [u32; 128],
 )
     requires { ⌜ (p < 128) × (tokens < 2147483647) × (p < length (now lacks)) ⌝ }
-    requires { ⌜ Curbed (now index) (now s) (now curbs) × Weighty (now index) (now w) × (p < length (now w)) × (8 * p + 8 ≤ length (now index)) ⌝ }
+    requires { ⌜ Curbed (now index) (now s) (now curbs) × Weighty (now index) (now w) × (p < length (now w)) × (p < length (now curbs)) × (8 * p + 8 ≤ length (now index)) ⌝ }
     requires { ⌜ Four (now w) (now held) (now shown) (now from) (now upto) ⌝ }
     ensures { λ _. ⌜ Moves-to (now (index .entry)) (now (w .entry)) (now (s .entry)) p tokens (now (held .entry)) (now (shown .entry)) (now (from .entry)) (now (upto .entry)) (now (held .exit)) (now (shown .exit)) (now (from .exit)) (now (upto .exit)) ⌝ }
     ensures { λ _. ⌜ (Wanting-but p (now (held .entry)) (now (curbs .entry)) (now (lacks .entry)) → Wanting (now (held .exit)) (now (curbs .entry)) (now (lacks .exit))) ⌝ }
@@ -142,7 +142,7 @@ pub fn shift(
     p: usize,
     tokens: u32,
     index: &[u64],
-    curbs: &[u64; 128],
+    curbs: &[u64],
     w: &[[u16; 64]],
     s: &[[u8; 64]],
     held: &mut [u64],
@@ -152,7 +152,7 @@ pub fn shift(
     upto: &mut [u32; 128],
 )
     requires { ⌜ (p < 128) × (tokens < 2147483647) ⌝ }
-    requires { ⌜ Curbed (now index) (now s) (now curbs) × Weighty (now index) (now w) × (p < length (now w)) × (8 * p + 8 ≤ length (now index)) ⌝ }
+    requires { ⌜ Curbed (now index) (now s) (now curbs) × Weighty (now index) (now w) × (p < length (now w)) × (p < length (now curbs)) × (8 * p + 8 ≤ length (now index)) ⌝ }
     requires { ⌜ Four (now w) (now held) (now shown) (now from) (now upto) ⌝ }
     requires { ⌜ Spans (now index) (now w) (now s) p (getD (now held) p 0) (getD (now shown) p 0) (getD (now from) p 0) (getD (now upto) p 0) ⌝ }
     requires { ⌜ Wanting (now held) (now curbs) (now lacks) ⌝ }
@@ -181,7 +181,7 @@ pub fn shift(
 pub fn hold(
     m: &[u32; 128],
     index: &[u64],
-    curbs: &[u64; 128],
+    curbs: &[u64],
     w: &[[u16; 64]],
     s: &[[u8; 64]],
     n: usize,
@@ -192,7 +192,7 @@ pub fn hold(
     upto: &mut [u32; 128],
 )
     requires { ⌜ (now held ≡ replicate (length (now w)) 0) × (now shown ≡ replicate (length (now w)) 0) × (now from ≡ replicate 128 0) × (now upto ≡ replicate 128 2147483647) × (now lacks ≡ replicate (length (now w)) 0) ⌝ }
-    requires { ⌜ Curbed (now index) (now s) (now curbs) × Weighty (now index) (now w) × (n ≤ length (now w)) × (8 * n ≤ length (now index)) ⌝ }
+    requires { ⌜ Curbed (now index) (now s) (now curbs) × Weighty (now index) (now w) × (n ≤ length (now w)) × (n ≤ length (now curbs)) × (8 * n ≤ length (now index)) ⌝ }
     requires { ⌜ Empty-from (now index) n ⌝ }
     requires { ⌜ ((p : ℕ) → p < 128 → getD (now m) p 0 < 2147483647) ⌝ }
     ensures { λ _. ⌜ Levels (now (index .entry)) (now (w .entry)) (now (s .entry)) (now (m .entry)) (now (held .exit)) (now (shown .exit)) (now (from .exit)) (now (upto .exit)) ⌝ }

@@ -108,10 +108,10 @@ fn starved(
     lacks: &[u64],
     from: &[u32; 128],
     index: &[u64],
-    curbs: &[u64; 128],
+    curbs: &[u64],
     w: &[[u16; 64]],
 ) -> u64
-    requires { ⌜ (p < 128) × (rest ≤ 65535) × (p < length (now w)) × (p < length (now lacks)) × (8 * p + 8 ≤ length (now index)) ⌝ }
+    requires { ⌜ (p < 128) × (rest ≤ 65535) × (p < length (now w)) × (p < length (now curbs)) × (p < length (now lacks)) × (8 * p + 8 ≤ length (now index)) ⌝ }
     requires { ⌜ ((t : ℕ) → t < 64 → plain (now index) (now curbs) p t ≡ true → 1 ≤ cell (now w) p t) ⌝ }
     requires { ⌜ (getD (now from) p 0 ≤ rest → (t : ℕ) → t < 64 → bit (getD (now lacks) p 0) t ≡ (plain (now index) (now curbs) p t && ltb rest (cell (now w) p t))) ⌝ }
     ensures { λ r. ⌜ ((t : ℕ) → t < 64 → bit r t ≡ (bit all t || (plain (now (index .entry)) (now (curbs .entry)) p t && ltb rest (cell (now (w .entry)) p t)))) ⌝ }
@@ -137,12 +137,12 @@ fn tend(
     from: &mut [u32; 128],
     upto: &mut [u32; 128],
     index: &[u64],
-    curbs: &[u64; 128],
+    curbs: &[u64],
     w: &[[u16; 64]],
     s: &[[u8; 64]],
 ) -> u64
     requires { ⌜ (p < 128) × (rest ≤ 65535) × (rest ≤ new) × (new < 2147483647) ⌝ }
-    requires { ⌜ Curbed (now index) (now s) (now curbs) × Weighty (now index) (now w) × (p < length (now w)) × (8 * p + 8 ≤ length (now index)) ⌝ }
+    requires { ⌜ Curbed (now index) (now s) (now curbs) × Weighty (now index) (now w) × (p < length (now w)) × (p < length (now curbs)) × (8 * p + 8 ≤ length (now index)) ⌝ }
     requires { ⌜ Four (now w) (now held) (now shown) (now from) (now upto) ⌝ }
     requires { ⌜ Spans (now index) (now w) (now s) p (getD (now held) p 0) (getD (now shown) p 0) (getD (now from) p 0) (getD (now upto) p 0) ⌝ }
     requires { ⌜ Wanting (now held) (now curbs) (now lacks) ⌝ }
@@ -172,13 +172,13 @@ fn tend_eight(
     from: &mut [u32; 128],
     upto: &mut [u32; 128],
     index: &[u64],
-    curbs: &[u64; 128],
+    curbs: &[u64],
     w: &[[u16; 64]],
     s: &[[u8; 64]],
 ) -> u64
     requires { ⌜ (e < 16) × ((p : ℕ) → p < 8 * e + 8 → getD (now marks) p 0 ≤ 1) ⌝ }
     requires { ⌜ ((p : ℕ) → p < 8 * e + 8 → (getD (now left) p 0 ≤ 65535) × (getD (now left) p 0 ≤ getD (now m) p 0) × (getD (now m) p 0 < 2147483647)) ⌝ }
-    requires { ⌜ Curbed (now index) (now s) (now curbs) × Weighty (now index) (now w) × (8 * e + 8 ≤ length (now w)) × (8 * (8 * e + 8) ≤ length (now index)) ⌝ }
+    requires { ⌜ Curbed (now index) (now s) (now curbs) × Weighty (now index) (now w) × (8 * e + 8 ≤ length (now w)) × (8 * e + 8 ≤ length (now curbs)) × (8 * (8 * e + 8) ≤ length (now index)) ⌝ }
     requires { ⌜ Four (now w) (now held) (now shown) (now from) (now upto) ⌝ }
     requires { ⌜ ((p : ℕ) → p < 128 → Spans (now index) (now w) (now s) p (getD (now held) p 0) (getD (now shown) p 0) (getD (now from) p 0) (getD (now upto) p 0)) ⌝ }
     requires { ⌜ Wanting (now held) (now curbs) (now lacks) ⌝ }
@@ -212,7 +212,7 @@ fn tend_eight(
 // The new tokens of every place: less what is taken there, and with what is put. What is taken and put is then done with, and what is kept of each place
 // spans its new tokens. The answer is whom the places starve: those that lacked tokens, before anything was taken, at a place from which something is
 // taken, and those that the rest of a place starves where it is below the place's level. From place 8 × eights on nothing is taken or put, and
-// neither w nor the index need have a row; `left` and `marks` are lent to work with.
+// neither w nor the inhibitor arcs nor the index need have a row; `left` and `marks` are lent to work with.
 pub fn settle(
     m: &mut [u32; 128],
     held: &mut [u64],
@@ -227,14 +227,14 @@ pub fn settle(
     lack: u64,
     eights: usize,
     index: &[u64],
-    curbs: &[u64; 128],
+    curbs: &[u64],
     w: &[[u16; 64]],
     s: &[[u8; 64]],
 ) -> u64
     requires { ⌜ (8 * eights ≤ 128) × Low (now m) (now put) × Paid (now m) (now taken) ⌝ }
     requires { ⌜ Still (8 * eights) (now taken) (now put) ⌝ }
     requires { ⌜ (length (now m) ≡ 128) × (length (now taken) ≡ 128) × (length (now put) ≡ 128) × (length (now left) ≡ 128) × (length (now marks) ≡ 128) ⌝ }
-    requires { ⌜ Curbed (now index) (now s) (now curbs) × Weighty (now index) (now w) × (8 * eights ≤ length (now w)) × (8 * (8 * eights) ≤ length (now index)) ⌝ }
+    requires { ⌜ Curbed (now index) (now s) (now curbs) × Weighty (now index) (now w) × (8 * eights ≤ length (now w)) × (8 * eights ≤ length (now curbs)) × (8 * (8 * eights) ≤ length (now index)) ⌝ }
     requires { ⌜ Levels (now index) (now w) (now s) (now m) (now held) (now shown) (now from) (now upto) ⌝ }
     requires { ⌜ Lacks (now taken) (now lacks) lack ⌝ }
     requires { ⌜ Wanting (now held) (now curbs) (now lacks) ⌝ }

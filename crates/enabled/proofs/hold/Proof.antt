@@ -72,7 +72,7 @@ size {rows} {n} k e = ap length e ∙ length-replicate {A = ℕ} n k
 
 loop-holds : tie.Need-loop-holds Inv-loop μ-loop
 loop-holds c =
-    let lent = c .before .before .before .before .pre .0 in (
+    let lent = c .before .before .before .before .before .pre .0 in (
       omega arith,
       (size 0 (lent .0), size 0 (lent .1), size 0 (lent .2), size 2147483647 (lent .3)),
       λ q h. absurd (omega (arith, h)),
@@ -94,12 +94,12 @@ element-copy-out-relevel c = search needs
 relevel-requires : tie.Need-relevel-requires Inv-loop μ-loop
 relevel-requires c κs =
     let at = c .before .before .before .before .before .before .before .loop in
-    let start = c .before .before .before .before .before .before .before .before .before .before .before .before in
+    let start = c .before .before .before .before .before .before .before .before .before .before .before .before .before in
     let next : at .p < start .args .n = c .before .before .before .before .before .before .loop-test .taken in
     let place : at .p < 128 = omega (arith, next, start .pre .1 .1 .0 .within) in
     let tables = start .pre .1 .0 in (
       (place, start .pre .1 .1 .1 (at .p) place, omega (arith, next, tables .2, at .inv .1 .0, at .inv .4 .size)),
-      ((tables .0, tables .1, omega (arith, next, tables .2), omega (arith, next, tables .3)), at .inv .1),
+      ((tables .0, tables .1, omega (arith, next, tables .2), omega (arith, next, tables .3), omega (arith, next, tables .4)), at .inv .1),
     )
 
 add-p : tie.Need-add-p Inv-loop μ-loop
@@ -112,26 +112,26 @@ loop-again : tie.Need-loop-again Inv-loop μ-loop
 loop-again c =
     let called = c .before .before .before .before .before .before in
     let at = called .before .before .before .before .before .before .before .before .loop in
-    let m = called .before .before .before .before .before .before .before .before .before .before .before .before .before .args .m .now in
+    let m = called .before .before .before .before .before .before .before .before .before .before .before .before .before .before .args .m .now in
     let moves = called .relevel .ensures .0 in
     (omega arith, moves .sizes, passed m moves (at .inv .2), to-come m moves (at .inv .3), called .relevel .ensures .1 (but-one _ (at .inv .4)))
 
 -- The first three rows go as far as w, as they did when they were lent.
 same-length : tie.Need-same-length Inv-loop μ-loop
-same-length c = c .before .loop .inv .1 .0 ∙ sym (size 0 (c .before .before .before .before .before .before .pre .0 .0))
+same-length c = c .before .loop .inv .1 .0 ∙ sym (size 0 (c .before .before .before .before .before .before .before .pre .0 .0))
 
 same-length-2 : tie.Need-same-length-2 Inv-loop μ-loop
 same-length-2 c =
     let inv = c .before .loop .inv in
-    inv .4 .size ∙ inv .1 .0 ∙ sym (size 0 (c .before .before .before .before .before .before .pre .0 .4))
+    inv .4 .size ∙ inv .1 .0 ∙ sym (size 0 (c .before .before .before .before .before .before .before .pre .0 .4))
 
 same-length-3 : tie.Need-same-length-3 Inv-loop μ-loop
-same-length-3 c = c .before .loop .inv .1 .1 ∙ sym (size 0 (c .before .before .before .before .before .before .pre .0 .1))
+same-length-3 c = c .before .loop .inv .1 .1 ∙ sym (size 0 (c .before .before .before .before .before .before .before .pre .0 .1))
 
 returns : tie.Need-returns Inv-loop μ-loop
 returns c =
     let at = c .before .loop in
-    let start = c .before .before .before .before .before .before in (
+    let start = c .before .before .before .before .before .before .before in (
       all-spanned _ _ _ (start .args .m .now) _ _ _ _ _ (at .p) (start .pre .1 .1 .0) (c .loop-test .left) (at .inv .1) (start .pre .1 .1 .1) (at .inv .2) (at .inv .3),
       at .inv .4,
     )

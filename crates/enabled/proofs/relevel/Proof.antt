@@ -30,14 +30,14 @@ shared-slice-element-level-of c = search needs
 
 level-of-requires : tie.Need-level-of-requires
 level-of-requires c κs =
-    let start = c .before .before .before .before .before .before in
+    let start = c .before .before .before .before .before .before .before in
     (start .pre .0 .1, λ t h e. start .pre .1 .0 .1 .least (start .args .p) t (start .pre .0 .0) h e)
 
 mul-less : tie.Need-mul-less
 mul-less c = search needs
 
-element-copy-out-less : tie.Need-element-copy-out-less
-element-copy-out-less c = search needs
+shared-slice-read-less : tie.Need-shared-slice-read-less
+shared-slice-read-less c = search needs
 
 less-requires : tie.Need-less-requires
 less-requires c κs = search needs
@@ -51,8 +51,8 @@ slice-write-lacks c = search needs
 mul-less-2 : tie.Need-mul-less-2
 mul-less-2 c = search needs
 
-element-copy-out-less-2 : tie.Need-element-copy-out-less-2
-element-copy-out-less-2 c = search needs
+shared-slice-read-less-2 : tie.Need-shared-slice-read-less-2
+shared-slice-read-less-2 c = search needs
 
 less-requires-2 : tie.Need-less-requires-2
 less-requires-2 c κs = search needs
@@ -113,7 +113,7 @@ returns c =
     let joins = c .before .before in
     let lacking = joins .before .before .before in
     let level-of = lacking .before .before in
-    let start = level-of .before .before .before .before .before .before .before in
+    let start = level-of .before .before .before .before .before .before .before .before in
     let a = start .args in
     let four = start .pre .1 .1 in
     let x = level-of .level-of .ensures in
@@ -162,12 +162,12 @@ relevel-spec =
     shared-slice-element-level-of
     level-of-requires
     mul-less
-    element-copy-out-less
+    shared-slice-read-less
     less-requires
     mul-lacks
     slice-write-lacks
     mul-less-2
-    element-copy-out-less-2
+    shared-slice-read-less-2
     less-requires-2
     union-requires
     mul-held

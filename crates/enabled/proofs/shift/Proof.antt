@@ -28,7 +28,7 @@ outside-requires c κs = search needs
 
 relevel-requires : tie.Need-relevel-requires
 relevel-requires c κs =
-    let start = c .before .before .before .before .before .before .before .before .before .before .before .before .before in
+    let start = c .before .before .before .before .before .before .before .before .before .before .before .before .before .before in
     let tables = start .pre .1 .0 in
     let four = start .pre .1 .1 .0 in
     ((start .pre .0 .0, start .pre .0 .1, omega (arith, tables .2, four .0, start .pre .1 .1 .1 .1 .size)), (tables, four))
@@ -45,12 +45,12 @@ same-length-3 c = search needs
 returns : tie.Need-returns
 returns c =
     let called = c .before .before .before .before .before .before in
-    let start = called .before .before .before .before .before .before .before .before .before .before .before .before .before .before in
+    let start = called .before .before .before .before .before .before .before .before .before .before .before .before .before .before .before in
     (called .relevel .ensures .0, called .relevel .ensures .1 (but-one _ (start .pre .1 .1 .1 .1)))
 
 returns-2 : tie.Need-returns-2
 returns-2 c =
-    let start = c .before .before .before .before .before .before .before .before in (
+    let start = c .before .before .before .before .before .before .before .before .before in (
       record {
         sizes = start .pre .1 .1 .0;
         spans = start .pre .1 .1 .1 .0;

@@ -22,14 +22,14 @@ abbrev μ-loop : tie.MeasureT-loop
 
 -- What the function began with.
 abbrev begun : tie.After-sweep Inv-loop μ-loop → tie.Start Inv-loop μ-loop
-begun c = c .before .before .before .before .before .before .before .before .before .before .before .before
+begun c = c .before .before .before .before .before .before .before .before .before .before .before .before .before
 
 mul-sweep : tie.Need-mul-sweep Inv-loop μ-loop
 mul-sweep c = search needs
 
 sweep-requires : tie.Need-sweep-requires Inv-loop μ-loop
 sweep-requires c κs =
-    let pre = c .before .before .before .before .before .before .before .before .before .before .before .pre in
+    let pre = c .before .before .before .before .before .before .before .before .before .before .before .before .pre in
     let levels = pre .1 .1 .1 .1 .0 in
     (pre .0, (pre .1 .1 .0, λ p h. (omega (arith, levels .inside p h .0, pre .0 .1 .tokens p h), levels .spans p h .roof)))
 
@@ -55,7 +55,7 @@ tend-eight-requires c κs =
             let rest = rest-low (after .sweep .ensures .0) p (in-eights p h) in
             (omega (arith, rest .0, low .tokens p place), rest .1, omega (arith, rest .2, low .tokens p place, low .put-low p place)),
         (
-          (tables .0, tables .1, omega (arith, in-loop .loop-test .taken, tables .2), omega (arith, in-loop .loop-test .taken, tables .3)),
+          (tables .0, tables .1, omega (arith, in-loop .loop-test .taken, tables .2), omega (arith, in-loop .loop-test .taken, tables .3), omega (arith, in-loop .loop-test .taken, tables .4)),
           (loop .inv .1 .sizes, (spans-still _ _ _ _ _ _ (loop .inv .1) (pre .1 .1 .1 .1 .0 .spans), loop .inv .2)),
         ),
       ),

@@ -24,7 +24,7 @@ union-requires c κs = search needs
 
 returns : tie.Need-returns
 returns c t l =
-    let start = c .before .before .before .before .before .before in
+    let start = c .before .before .before .before .before .before .before in
     c .union .ensures t
     ∙ ap (λ (b : Bool). bit (start .args .all) t || b) (start .pre .1 .1 (c .before .before .if1 .taken) t l)
 
@@ -43,8 +43,8 @@ shared-slice-read-less c = search needs
 mul-less-3 : tie.Need-mul-less-3
 mul-less-3 c = search needs
 
-element-copy-out-less : tie.Need-element-copy-out-less
-element-copy-out-less c = search needs
+shared-slice-read-less-2 : tie.Need-shared-slice-read-less-2
+shared-slice-read-less-2 c = search needs
 
 less-requires : tie.Need-less-requires
 less-requires c κs = search needs
@@ -57,7 +57,7 @@ shared-slice-element-level-of c = search needs
 
 level-of-requires : tie.Need-level-of-requires
 level-of-requires c κs =
-    let pre = c .before .before .before .before .before .before .before .before .pre in
+    let pre = c .before .before .before .before .before .before .before .before .before .pre in
     (omega (arith, pre .0 .1), λ t l e. pre .1 .0 t l (sym (c .before .less .ensures t) ∙ e))
 
 union-requires-2 : tie.Need-union-requires-2
@@ -83,7 +83,7 @@ starved-spec =
     mul-less-2
     shared-slice-read-less
     mul-less-3
-    element-copy-out-less
+    shared-slice-read-less-2
     less-requires
     mul-level-of
     shared-slice-element-level-of

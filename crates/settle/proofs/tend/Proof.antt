@@ -19,18 +19,18 @@ element-copy-out-fell c = search needs
 
 shift-requires : tie.Need-shift-requires
 shift-requires c κs =
-    let pre = c .before .before .before .before .before .before .before .before .before .before .pre in
+    let pre = c .before .before .before .before .before .before .before .before .before .before .before .pre in
     ((pre .0 .0, omega (arith, pre .0 .3)), (pre .1 .0, (pre .1 .1 .0, pre .1 .1 .1)))
 
 starved-requires : tie.Need-starved-requires
 starved-requires c κs =
     let shifted = c .before .before .before .before .before .before .before .before .before in
-    let start = shifted .before .before .before .before .before .before .before .before .before .before .before in
+    let start = shifted .before .before .before .before .before .before .before .before .before .before .before .before in
     let pre = start .pre in
     let place = pre .0 .0 in
     let moved = shifted .shift .ensures .0 in
     let wanting = shifted .shift .ensures .1 in (
-      (place, pre .0 .1, pre .1 .0 .2, omega (arith, pre .1 .0 .2, moved .sizes .0, wanting .size), pre .1 .0 .3),
+      (place, pre .0 .1, pre .1 .0 .2, pre .1 .0 .3, omega (arith, pre .1 .0 .2, moved .sizes .0, wanting .size), pre .1 .0 .4),
       (
         λ t l e. pre .1 .0 .1 .least _ t place l (and-left (bit (getD (start .args .index .now) (8 * start .args .p + 2) 0) t) _ e),
         λ low. spans-plain (pre .1 .0 .0) wanting (moved .spans) place _ low (omega (arith, pre .0 .2, moved .inside .1)),

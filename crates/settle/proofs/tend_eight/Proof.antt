@@ -27,14 +27,14 @@ abbrev μ-loop : tie.MeasureT-loop
 
 -- What the function began with.
 abbrev begun : tie.At-loop Inv-loop μ-loop → tie.Start Inv-loop μ-loop
-begun c = c .before .before .before .before .before .before
+begun c = c .before .before .before .before .before .before .before
 
 eight-requires : tie.Need-eight-requires Inv-loop μ-loop
-eight-requires c κs = c .before .before .before .before .pre .0
+eight-requires c κs = c .before .before .before .before .before .pre .0
 
 loop-holds : tie.Need-loop-holds Inv-loop μ-loop
 loop-holds c =
-    let pre = c .before .before .before .before .before .pre in
+    let pre = c .before .before .before .before .before .before .pre in
     (omega arith, all-waiting (c .eight .ensures), none-tended _ _ _ _ _ _ _ _ _ _ _ _ (pre .1 .1 .1 .0) (none-out (c .eight .ensures)), pre .1 .1 .1 .1 .1)
 
 -- The mark that is taken out is in the word.
@@ -90,7 +90,7 @@ tend-requires c κs =
     let tables = pre .1 .1 .0 in (
       (at .1, low .0, low .1, low .2),
       (
-        (tables .0, tables .1, omega (arith, at .0, tables .2), omega (arith, at .0, tables .3)),
+        (tables .0, tables .1, omega (arith, at .0, tables .2), omega (arith, at .0, tables .3), omega (arith, at .0, tables .4)),
         (loop .inv .2 .sizes, (spans-still _ _ _ _ _ _ (loop .inv .2) (pre .1 .1 .1 .1 .0) _ (at .1), loop .inv .3)),
       ),
     )
