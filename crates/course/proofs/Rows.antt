@@ -75,10 +75,10 @@ module _ {bs : List ℕ} {x : Intervals} {index higher takers truths heads next 
       → (low high : List ℕ) → Enters (table bs) (table bs .records) low high
       → (rivals : List ℕ) (lower : ℕ) → Rivals higher takers low high rivals lower
       → (transitions-below reach ≤ length rivals) × (transitions-below reach ≤ length low) × (transitions-below reach ≤ length high)
-      → (w s : List (List ℕ)) → Weights (table bs) w → Sorts (table bs) s → Housing reach (length w) → length s ≡ length w → (curbs : List ℕ) → Gathered (table bs) 3 2 curbs
+      → (w s : List (List ℕ)) → Weights (table bs) w → Sorts (table bs) s → Housing reach (length w) → length s ≡ length w → (curbs : List ℕ) → Gathered (table bs) 3 2 curbs → length curbs ≡ length w
       → Net-of bs known timed conditional lower eights x limit last index rivals w s takers low high curbs heads next truths
   net-of known known-is timed timed-is words conditional conditional-is n empty eights fill limit last limits low high entering rivals lower rivals-are ranked w s weights sorts
-      housing alike curbs curbing =
+      housing alike curbs curbing as-many =
       let inputs : Inputs-of index (record { low = low; high = high }) = inputs-hold (table bs) index clean (arcs bs (read .sound)) entering in
       record {
         sound = read .sound;
@@ -112,6 +112,7 @@ module _ {bs : List ℕ} {x : Intervals} {index higher takers truths heads next 
               sort-rows = omega (arith, rows, alike);
               taker-rows = numbers;
               truth-rows = omega (arith, numbers, read .truths-long);
+              curb-rows = omega (arith, rows, as-many);
               rival-rows = λ t h e.
                   let near : t < transitions-below reach =
                   lt-of-not-le

@@ -177,7 +177,7 @@ pub fn shift(
 }
 
 // The five rows of each place for its tokens. They are lent empty, each level without an end, the first three as many as w has; from n on there is
-// neither an arc nor an action, and neither w nor the index need have a row.
+// neither an arc nor an action, and neither w nor the inhibitor arcs nor the index need have a row.
 pub fn hold(
     m: &[u32; 128],
     index: &[u64],

@@ -33,7 +33,7 @@ abbrev loaded : tie.After-hold Inv-loop μ-loop → tie.After-load Inv-loop μ-l
 loaded c = c .before .before .before .before .before .before .before
 
 abbrev begun : tie.After-load Inv-loop μ-loop → tie.Start Inv-loop μ-loop
-begun c = c .before .before .before .before .before .before .before .before .before .before .before .before .before .before .before .before .before
+begun c = c .before .before .before .before .before .before .before .before .before .before .before .before .before .before .before .before .before .before
 
 abbrev start : tie.At-loop Inv-loop μ-loop → tie.Start Inv-loop μ-loop
 start c = begun (loaded (c .before .before .before .before .before .before .before))
@@ -60,11 +60,11 @@ idle c =
     idle-past (table (start c .args .t .now)) (start c .pre .0 .below) (image (at .reached)) (at .fits) (at .alike)
 
 mul-load : tie.Need-mul-load Inv-loop μ-loop
-mul-load c = omega (arith, c .before .before .before .before .before .before .before .before .before .before .before .before .before .before .before .before .pre .0 .within .within)
+mul-load c = omega (arith, c .before .before .before .before .before .before .before .before .before .before .before .before .before .before .before .before .before .pre .0 .within .within)
 
 load-requires : tie.Need-load-requires Inv-loop μ-loop
 load-requires c κs =
-    let pre = c .before .before .before .before .before .before .before .before .before .before .before .before .before .before .before .before .pre in
+    let pre = c .before .before .before .before .before .before .before .before .before .before .before .before .before .before .before .before .before .pre in
     let empty = pre .1 .1 .1 .1 .0 in
     ((empty .0, empty .1, pre .0 .within .within), blank-past _ (pre .0 .below) _ (fitting _ _ _ _ (pre .0 .sound) (pre .1 .1 .1 .1 .1 .1)))
 
@@ -73,7 +73,7 @@ hold-requires c κs =
     let load = c .before .before .before .before .before .before in
     let pre = begun load .pre in
     let empty = pre .1 .1 .1 .1 .1 .0 in
-    ((empty .0, empty .2, refl, refl, empty .1), ((pre .0 .curbed, weighty (pre .0), omega (arith, pre .1 .0 .1, pre .0 .rooms .weight-rows), omega (arith, pre .1 .0 .1, pre .0 .rooms .index-rows)), (pre .1 .0 .0, λ p h. omega (arith, load .load .ensures .1 .0 .tokens p h))))
+    ((empty .0, empty .2, refl, refl, empty .1), ((pre .0 .curbed, weighty (pre .0), omega (arith, pre .1 .0 .1, pre .0 .rooms .weight-rows), omega (arith, pre .1 .0 .1, pre .0 .rooms .curb-rows), omega (arith, pre .1 .0 .1, pre .0 .rooms .index-rows)), (pre .1 .0 .0, λ p h. omega (arith, load .load .ensures .1 .0 .tokens p h))))
 
 loop-holds : tie.Need-loop-holds Inv-loop μ-loop
 loop-holds c =
