@@ -6,7 +6,9 @@ pub mod Entering
 pub mod Links
 pub mod Touching
 pub mod Walks
+pub mod Turning
 pub mod Stopping
 pub mod Carry
+pub mod Whole
 pub mod Reach
 pub mod Wanted
