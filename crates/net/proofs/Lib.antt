@@ -4,7 +4,6 @@ pub mod Filing
 pub mod Arcs
 pub mod Entering
 pub mod Links
-pub mod Touching
 pub mod Walks
 pub mod Turning
 pub mod Stopping

@@ -14,8 +14,7 @@ use Rattle.meaning.proofs.Bool.{and-left, and-right}
 use Rattle.meaning.proofs.Below.{none-intro}
 use Rattle.meaning.proofs.Walk.{compared}
 use Rattle.net.specs.Chains.{link, arc-of}
-use Rattle.net.specs.Links.{Chained}
-use Rattle.net.specs.Laid.{Hangs}
+use Rattle.net.specs.Links.{Chained, Hangs}
 use Rattle.net.proofs.Links.{link-le, link-passes, link-past}
 
 module _ (n : ℕ) (p f : ℕ → Bool) where

@@ -192,7 +192,7 @@ sum-turn p f r at after e here is =
     ap of e ∙ ap (λ (b : Bool). of r + cond b (f r) 0) here ∙ ap (λ (x : ℕ). x + f r) (sum-link r p f ∙ ap of (sym is))
 
 -- A sum of numbers that are at most 65,535.
-sum-most : (n : ℕ) (f : ℕ → ℕ) → ((k : ℕ) → k < n → f k ≤ 65535) → sum n f ≤ 65535 * n
+pub sum-most : (n : ℕ) (f : ℕ → ℕ) → ((k : ℕ) → k < n → f k ≤ 65535) → sum n f ≤ 65535 * n
 unfolding sum
 sum-most zero f h = omega arith
 sum-most (suc n) f h = omega (arith, sum-most n f (λ k l. h k (omega arith)), h n (omega arith))

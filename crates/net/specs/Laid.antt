@@ -6,14 +6,7 @@ use Prim.Native.Nat.{ℕ, _+_, _*_, _≤_, _<_}
 use lib.ListN.{length, getD}
 use Rattle.meaning.specs.Bytes.{bit}
 use Rattle.meaning.specs.Table.{Table}
-use Rattle.net.specs.Chains.{link, arc-of}
 use Rattle.net.specs.Rows.{cell}
-
--- The link is where the chain of this sort and transition begins, and the records go on from one to the next; each has its link.
-pub record Hangs (tb : Table) (sort u first : ℕ) (next : List ℕ) : Type 0 where
-  pub begins : first ≡ link (tb .records) (arc-of tb sort u)
-  pub goes-on : (r : ℕ) → r < tb .records → tb .kind r ≡ 3 → getD next r 0 ≡ link r (arc-of tb (tb .sort r) (tb .two r))
-  pub enough : tb .records ≤ length next
 
 -- The chains are walked transition by transition, and of each sort by sort: record k is of a chain before chain c.
 abbrev pub Before : Table → ℕ → ℕ → Type 0

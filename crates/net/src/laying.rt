@@ -15,8 +15,8 @@ ghost use Rattle.meaning.specs.Defined.{check};
 ghost use Rattle.meaning.specs.Table.{table, total, arc, is};
 ghost use Rattle.net.specs.Rows.{Gathered, Weights, Sorts};
 ghost use Rattle.net.specs.Chains.{arc-of, Enters};
-ghost use Rattle.net.specs.Links.{Chained};
-ghost use Rattle.net.specs.Laid.{Hangs, Before, Cells, Inputs, Curbed};
+ghost use Rattle.net.specs.Links.{Chained, Hangs};
+ghost use Rattle.net.specs.Laid.{Before, Cells, Inputs, Curbed};
 
 // The places of a transition's input arcs: 0 to 63, and the others.
 struct Words {
