@@ -4,9 +4,10 @@ pub mod Filing
 pub mod Arcs
 pub mod Entering
 pub mod Links
-pub mod Touching
 pub mod Walks
+pub mod Turning
 pub mod Stopping
 pub mod Carry
+pub mod Whole
 pub mod Reach
 pub mod Wanted

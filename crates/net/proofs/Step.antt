@@ -1,28 +1,24 @@
 -- One more record: an array that holds what the first r records say holds what r + 1 say, after one store or none. A record that passes its
--- test stands in one row, and one that fails stands in none. Past the last record all have been read.
+-- test stands in one row, and one that fails stands in none.
 use mathlib.Core.Bool.{Bool, true, false, cond, _&&_, _||_, or-false}
-use mathlib.Core.List.{List, []}
+use mathlib.Core.List.{List}
 use mathlib.Core.Path.{_≡_, refl, sym, ap, _∙_}
-use Prim.Native.Nat.{ℕ, _+_, _/_, _≤_, _<_}
+use Prim.Native.Nat.{ℕ, _+_, _<_}
 use native.Mathlib.Numerals.{add-one}
 use native.Mathlib.Omega.{arith}
 use lib.Dec.{eqb, ltb}
-use lib.ListN.{length, getD, set, replicate, length-set, length-replicate, getD-replicate, List·getD-eq-default}
+use lib.ListN.{length, getD, set, replicate, length-set, length-replicate, getD-replicate}
 use lib.Seq.{getD-set-same, getD-set-other}
-use borrow.Author.Tests.{eqb-true, eqb-false, lt-ltb, ltb-true, ltb-false}
+use borrow.Author.Tests.{eqb-true, eqb-false, lt-ltb, ltb-true}
 use Rattle.meaning.specs.Below.{some}
 use Rattle.meaning.specs.Bytes.{bit}
-use Rattle.meaning.specs.Table.{Table, table, is}
+use Rattle.meaning.specs.Table.{Table, is}
 use Rattle.meaning.proofs.Bool.{and-left, and-right, and-true, not-both, same-test}
 use Rattle.meaning.proofs.Reflect.{not-true-false}
 use Rattle.sets.proofs.Bits.{bit-zero}
 use Rattle.sets.proofs.Rows.{all-zero}
-use Rattle.net.specs.Rows.{latest, cell, input}
-use Rattle.net.specs.Grow.{Grown, Grown-all, Kept, declares, Told}
-
-pub all-read : (bs : List ℕ) (r : ℕ) → r ≤ length bs / 8 → length bs / 8 ≤ r → r ≡ table bs .records
-unfolding table
-all-read bs r h l = omega arith
+use Rattle.net.specs.Rows.{latest}
+use Rattle.net.specs.Grow.{Grown, declares, Told}
 
 -- A test that implies one that fails, fails.
 fails : {a b : Bool} → (a ≡ true → b ≡ true) → b ≡ false → a ≡ false
@@ -39,11 +35,6 @@ module _ (m : ℕ) (f : ℕ → ℕ → ℕ → Bool) where
   pub grown-blank : (rows : List ℕ) → rows ≡ replicate (length rows) 0 → Grown m 0 f rows
   unfolding some
   grown-blank rows e = record { holds = λ x y h l. ap (λ (v : ℕ). bit v y) (all-zero rows e x) ∙ bit-zero y }
-
-  pub grown-none : Grown-all m 0 f (replicate m 0)
-  grown-none =
-      let size : length {A = ℕ} (replicate m 0) ≡ m = length-replicate m 0 in
-      (size, grown-blank (replicate m 0) (ap (λ (n : ℕ). replicate {A = ℕ} n 0) (sym size)))
 
   -- Record r, where k holds, puts into row a what passes q.
   module _ (r : ℕ) (rows : List ℕ) (g : Grown m r f rows) (k : Bool) (a : ℕ) (q : ℕ → Bool)
@@ -73,82 +64,6 @@ module _ (m : ℕ) (f : ℕ → ℕ → ℕ → Bool) where
             rw (← eqb-true a x e) (ap (λ (z : ℕ). bit z y) (getD-set-same rows a v 0 there) ∙ gains y l)
         at x y l false e =
             ap (λ (z : ℕ). bit z y) (getD-set-other rows a x v 0 (λ q. eqb-false a x e (sym q))) ∙ sym (or-false (bit (getD rows x 0) y))
-
--- A row with no arc.
-abbrev pub empty : List ℕ
-empty = replicate 64 0
-
-module _ (tb : Table) (f : ℕ → ℕ) (rows : ℕ) where
-  -- Before the first record all cells are 0.
-  pub kept-none : Kept tb f rows 0 (replicate rows empty)
-  unfolding latest
-  kept-none =
-      record {
-        places = length-replicate rows empty;
-        transitions = λ p h. ap (λ (l : List ℕ). length l) (row p h) ∙ length-replicate {A = ℕ} 64 0;
-        holds = λ p t h l. nothing p t l (ltb p rows) refl;
-      }
-    where
-      row : (p : ℕ) → p < rows → getD (replicate rows empty) p [] ≡ empty
-      row p h = getD-replicate rows p empty [] h
-
-      nothing : (p t : ℕ) → t < 64 → (b : Bool) → ltb p rows ≡ b → cell (replicate rows empty) p t ≡ 0
-      nothing p t l true e = ap (λ (z : List ℕ). getD z t 0) (row p (ltb-true p rows e)) ∙ getD-replicate 64 t 0 0 l
-      nothing p t l false e =
-          ap (λ (z : List ℕ). getD z t 0)
-          (List·getD-eq-default (replicate rows empty) [] (omega (arith, ltb-false p rows e, length-replicate rows empty)))
-
-  module _ (r : ℕ) (w : List (List ℕ)) (g : Kept tb f rows r w) where
-    -- Record r is no input arc.
-    pub kept-same : (is tb 3 r && ltb (tb .sort r) 3) ≡ false → Kept tb f rows (r + 1) w
-    unfolding latest
-    kept-same e = record { places = g .places; transitions = g .transitions; holds = λ p t h l. g .holds p t h l ∙ rw (add-one r, e) }
-
-    -- It is one from place a to transition b, whose cell takes what the record says.
-    pub kept-more : (a b : ℕ) → a < rows → b < 64 → input tb a b r ≡ true → (v : ℕ) → v ≡ f r
-        → Kept tb f rows (r + 1) (set w a (set (getD w a []) b v))
-    unfolding latest
-    kept-more a b place transition here v is =
-        record {
-          places = length-set w a (set (getD w a []) b v) ∙ g .places;
-          transitions = λ p h. long p h (eqb a p) refl;
-          holds = λ p t h l.
-              rw (add-one r, and-left arcs (eqb (tb .one r) a) front, one, two, ← g .holds p t h l) (at p t (eqb a p) (eqb b t) refl refl);
-        }
-      where
-        arcs : Bool
-        arcs = eqb (tb .kind r) 3 && ltb (tb .sort r) 3
-
-        front : (arcs && eqb (tb .one r) a) ≡ true
-        front = and-left (arcs && eqb (tb .one r) a) (eqb (tb .two r) b) here
-
-        one : tb .one r ≡ a
-        one = eqb-true (tb .one r) a (and-right arcs (eqb (tb .one r) a) front)
-
-        two : tb .two r ≡ b
-        two = eqb-true (tb .two r) b (and-right (arcs && eqb (tb .one r) a) (eqb (tb .two r) b) here)
-
-        same : (p : ℕ) → eqb a p ≡ true → getD (set w a (set (getD w a []) b v)) p [] ≡ set (getD w a []) b v
-        same p x = rw (← eqb-true a p x) (getD-set-same w a (set (getD w a []) b v) [] (omega (arith, place, g .places)))
-
-        other : (p : ℕ) → eqb a p ≡ false → getD (set w a (set (getD w a []) b v)) p [] ≡ getD w p []
-        other p x = getD-set-other w a p (set (getD w a []) b v) [] (λ z. eqb-false a p x (sym z))
-
-        long : (p : ℕ) → p < rows → (x : Bool) → eqb a p ≡ x → length (getD (set w a (set (getD w a []) b v)) p []) ≡ 64
-        long p h true x = ap (λ (l : List ℕ). length l) (same p x) ∙ length-set (getD w a []) b v ∙ g .transitions a place
-        long p h false x = ap (λ (l : List ℕ). length l) (other p x) ∙ g .transitions p h
-
-        at : (p t : ℕ) (x y : Bool) → eqb a p ≡ x → eqb b t ≡ y
-            → cell (set w a (set (getD w a []) b v)) p t ≡ cond (x && y) (f r) (cell w p t)
-        at p t true true x y =
-            ap (λ (l : List ℕ). getD l t 0) (same p x)
-            ∙ rw (← eqb-true b t y) (getD-set-same (getD w a []) b v 0 (omega (arith, transition, g .transitions a place)) ∙ is)
-        at p t true false x y =
-            ap (λ (l : List ℕ). getD l t 0) (same p x)
-            ∙ getD-set-other (getD w a []) b t v 0 (λ z. eqb-false b t y (sym z))
-            ∙ rw (eqb-true a p x)
-        at p t false true x y = ap (λ (l : List ℕ). getD l t 0) (other p x)
-        at p t false false x y = ap (λ (l : List ℕ). getD l t 0) (other p x)
 
 module _ (tb : Table) (f : ℕ → ℕ) where
   -- Before the first record every transition has 0.

@@ -1,11 +1,9 @@
 -- Two arcs tell i and j apart exactly if in the chain of inhibitor arcs to j one has the place and the weight of a basic or of a test arc to i.
 use mathlib.Core.Bool.{Bool, true, _&&_, _||_}
-use mathlib.Core.List.{List}
 use mathlib.Core.Logic.{⊎-elim}
 use mathlib.Core.Path.{_≡_, sym}
-use Prim.Native.Nat.{ℕ, _+_, _*_, _<_}
+use Prim.Native.Nat.{ℕ, _<_}
 use lib.Dec.{eqb}
-use lib.ListN.{getD}
 use borrow.Author.Tests.{eqb-true, eq-eqb}
 use Rattle.meaning.specs.Below.{some}
 use Rattle.meaning.specs.Table.{Table, arc, basic, test}
@@ -13,17 +11,8 @@ use Rattle.meaning.specs.Defined.{inhibited}
 use Rattle.meaning.proofs.Bool.{and-left, and-right, and-true, or-true-left, or-true-right, or-cases, same-test}
 use Rattle.meaning.proofs.Below.{some-intro, some-elim}
 use Rattle.meaning.proofs.Pays.{two-elim, two-intro}
-use Rattle.net.specs.Chains.{link, arc-of}
-use Rattle.net.specs.Links.{Chained}
-use Rattle.net.specs.Opposed.{Hung, alike}
-
--- A head is where its chain begins.
-module _ (tb : Table) (heads next : List ℕ) (w : Chained tb heads next) (sort t at : ℕ) (h : sort < 4) (l : t < 64) (e : at ≡ 64 * sort + t) where
-  pub head : getD heads at 0 ≡ link (tb .records) (arc-of tb sort t)
-  head = rw e (w .begins sort t h l)
-
-  pub hung : Hung tb (getD heads at 0) next
-  hung = record { sort = sort; to = t; begins = head; goes-on = w .goes-on }
+use Rattle.net.specs.Chains.{arc-of}
+use Rattle.net.specs.Opposed.{alike}
 
 module _ (tb : Table) (i : ℕ) where
   -- Some arc to i of this sort has the place and the weight of record q.

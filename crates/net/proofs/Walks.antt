@@ -1,10 +1,12 @@
 -- A walk along a chain sees every record that passes: what stands between two of its links does not pass.
 use mathlib.Core.Bool.{Bool, true, false, _&&_}
+use mathlib.Core.List.{List}
 use mathlib.Core.Logic.{inl, inr}
 use mathlib.Core.Path.{_≡_, refl, sym, ap, _∙_}
-use Prim.Native.Nat.{ℕ, suc, _≤_, _<_}
+use Prim.Native.Nat.{ℕ, suc, _+_, _-_, _*_, _≤_, _<_}
 use native.Mathlib.Omega.{arith}
 use lib.Dec.{eqb}
+use lib.ListN.{length, getD}
 use borrow.Author.Tests.{eqb-true}
 use Rattle.meaning.specs.Below.{some}
 use Rattle.meaning.specs.Table.{Table, is, arc}
@@ -12,6 +14,7 @@ use Rattle.meaning.proofs.Bool.{and-left, and-right}
 use Rattle.meaning.proofs.Below.{none-intro}
 use Rattle.meaning.proofs.Walk.{compared}
 use Rattle.net.specs.Chains.{link, arc-of}
+use Rattle.net.specs.Links.{Chained, Hangs}
 use Rattle.net.proofs.Links.{link-le, link-passes, link-past}
 
 module _ (n : ℕ) (p f : ℕ → Bool) where
@@ -68,3 +71,44 @@ pub own-chain : (tb : Table) (sort t r : ℕ) {at : ℕ} → arc-of tb sort t r 
 own-chain tb sort t r e f =
     let is = arc-is tb sort t r e in
     f (is .0) ∙ rw (is .1, is .2)
+
+-- The chain of a sort at transition u begins in its row.
+pub hangs : {tb : Table} {heads next : List ℕ} → Chained tb heads next → tb .records ≤ length next → (sort u i : ℕ) → sort < 4 → u < 64
+    → i ≡ 64 * sort + u → Hangs tb sort u (getD heads i 0) next
+hangs {heads = heads} g enough sort u i low small e =
+    record { begins = ap (λ (k : ℕ). getD heads k 0) e ∙ g .begins sort u low small; goes-on = g .goes-on; enough = enough }
+
+-- The walk along the chain of a sort at transition u, whatever is done with its arcs.
+abbrev pub Along : Table → ℕ → ℕ → ℕ → Type 0
+Along tb sort u at = Walk (tb .records) (arc-of tb sort u) (λ q. false) at
+
+-- The arc at which it stands.
+pub record Stands (tb : Table) (sort u at : ℕ) : Type 0 where
+  pub next : at ≡ suc (at - 1)
+  pub inside : at - 1 < tb .records
+  pub own : arc-of tb sort u (at - 1) ≡ true
+  pub kind-is : tb .kind (at - 1) ≡ 3
+  pub sort-is : tb .sort (at - 1) ≡ sort
+  pub two-is : tb .two (at - 1) ≡ u
+
+module _ {tb : Table} {sort u first : ℕ} {next : List ℕ} (chain : Hangs tb sort u first next) where
+  pub along-begins : (at : ℕ) → at ≡ first → Along tb sort u at
+  along-begins at e = walk-begins _ _ _ at (e ∙ chain .begins)
+
+  module _ (at : ℕ) (w : Along tb sort u at) (more : ¬ (at ≡ 0)) where
+    pub stands : Stands tb sort u at
+    stands =
+        let stand = walk-at _ _ _ at w (at - 1) (omega arith) in
+        let is = arc-is tb sort u (at - 1) (stand .1) in
+        record { next = omega arith; inside = stand .0; own = stand .1; kind-is = is .0; sort-is = is .1; two-is = is .2 }
+
+    -- Where it goes on.
+    module _ (after : ℕ) (e : after ≡ getD next (at - 1) 0) where
+      pub following : after ≡ link (at - 1) (arc-of tb sort u)
+      following = e ∙ own-chain tb sort u (at - 1) (stands .own) (chain .goes-on (at - 1) (stands .inside))
+
+      pub along-goes-on : Along tb sort u after
+      along-goes-on = walk-goes-on _ _ _ at w (at - 1) (stands .next) refl after following
+
+      pub along-less : after < at
+      along-less = omega (arith, following, link-le (at - 1) (arc-of tb sort u), stands .next)

@@ -1,6 +1,6 @@
 -- What the first r records of a table have put into the rows.
 use mathlib.Core.Bool.{Bool, _&&_}
-use mathlib.Core.List.{List, []}
+use mathlib.Core.List.{List}
 use mathlib.Core.Path.{_≡_}
 use Prim.Native.Nat.{ℕ, _<_}
 use lib.Dec.{eqb}
@@ -8,7 +8,7 @@ use lib.ListN.{length, getD}
 use Rattle.meaning.specs.Below.{some}
 use Rattle.meaning.specs.Bytes.{bit}
 use Rattle.meaning.specs.Table.{Table, is}
-use Rattle.net.specs.Rows.{latest, cell, input}
+use Rattle.net.specs.Rows.{latest}
 
 -- Record k names y in row x: it is of the kind and sort, with byte 1 at x and byte 2 at y.
 abbrev pub names : Table → ℕ → ℕ → ℕ → ℕ → ℕ → Bool
@@ -17,17 +17,6 @@ names tb kind sort x y k = is tb kind k && eqb (tb .sort k) sort && eqb (tb .one
 -- Of the first r records, f x y says which put y into row x; the first m rows hold just these, and a row that is not there holds nothing.
 pub record Grown (m r : ℕ) (f : ℕ → ℕ → ℕ → Bool) (rows : List ℕ) : Type 0 where
   pub holds : (x y : ℕ) → x < m → y < 64 → bit (getD rows x 0) y ≡ some r (f x y)
-
--- The same of m rows, no more and no fewer.
-abbrev pub Grown-all : ℕ → ℕ → (ℕ → ℕ → ℕ → Bool) → List ℕ → Type 0
-Grown-all m r f rows = (length rows ≡ m) × Grown m r f rows
-
--- Each cell of so many rows, one for a place, holds column f of the last input arc at its place and transition, of the first r records; no place past
--- the rows has one.
-pub record Kept (tb : Table) (f : ℕ → ℕ) (rows r : ℕ) (w : List (List ℕ)) : Type 0 where
-  pub places : length w ≡ rows
-  pub transitions : (p : ℕ) → p < rows → length (getD w p []) ≡ 64
-  pub holds : (p t : ℕ) → p < 128 → t < 64 → cell w p t ≡ latest r (input tb p t) f
 
 -- Record k declares transition t.
 abbrev pub declares : Table → ℕ → ℕ → Bool

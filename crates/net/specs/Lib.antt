@@ -3,5 +3,6 @@ pub mod Rows
 pub mod Grow
 pub mod Chains
 pub mod Links
+pub mod Laid
 pub mod Opposed
 pub mod Pass

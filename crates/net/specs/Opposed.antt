@@ -2,19 +2,18 @@
 use mathlib.Core.Bool.{Bool, _&&_}
 use mathlib.Core.List.{List}
 use mathlib.Core.Path.{_≡_}
-use Prim.Native.Nat.{ℕ, _<_}
+use Prim.Native.Nat.{ℕ}
 use lib.Dec.{eqb}
-use lib.ListN.{getD}
 use Rattle.meaning.specs.Below.{some}
 use Rattle.meaning.specs.Table.{Table}
 use Rattle.net.specs.Chains.{link, arc-of}
+use Rattle.net.specs.Links.{Hangs}
 
--- The link is where the chain of some sort and transition begins, and the records go on from one to the next.
+-- The link is where the chain of some sort and transition begins.
 pub record Hung (tb : Table) (first : ℕ) (next : List ℕ) : Type 0 where
   pub sort : ℕ
   pub to : ℕ
-  pub begins : first ≡ link (tb .records) (arc-of tb sort to)
-  pub goes-on : (r : ℕ) → r < tb .records → tb .kind r ≡ 3 → getD next r 0 ≡ link r (arc-of tb (tb .sort r) (tb .two r))
+  pub chain : Hangs tb sort to first next
 
 -- Record r has this place and this weight.
 abbrev pub alike : Table → ℕ → ℕ → ℕ → Bool

@@ -73,7 +73,6 @@ fn opposes(x: Rec, y: Rec) -> bool
 // Is there an arc in the chain from `first` on with the place and the weight of y?
 fn opposed(t: &[u8], next: &[u32], first: u16, y: Rec) -> bool
     requires { ⌜ Hung (table (now t)) first (now next) ⌝ }
-    requires { ⌜ table (now t) .records ≤ length (now next) ⌝ }
     ensures { λ b. ⌜ Opposed (table (now (t .entry))) first (y .one) (y .four) b ⌝ }
 {
     let mut link = count(first);

@@ -12,8 +12,8 @@ use Rattle.meaning.proofs.Below.{some-intro}
 use Rattle.net.specs.Chains.{link, arc-of}
 use Rattle.net.specs.Opposed.{alike}
 use Rattle.net.proofs.Links.{link-le}
-use Rattle.net.proofs.Walks.{Walk, walk-begins, walk-at, walk-goes-on, walk-ends, own-chain}
-use Rattle.net.proofs.Stopping.{head, hung, against, stopping, inhibited-same}
+use Rattle.net.proofs.Walks.{Walk, walk-begins, walk-at, walk-goes-on, walk-ends, own-chain, hangs}
+use Rattle.net.proofs.Stopping.{against, stopping, inhibited-same}
 use Rattle.net.proofs.inhibits.Statement.{statement}
 use Rattle.net.proofs.inhibits.Tie as tie
 
@@ -38,7 +38,7 @@ count-requires c κs = search needs
 loop-holds : tie.Need-loop-holds Inv-loop μ-loop
 loop-holds c =
     let start = c .before .before .before .before in
-    walk-begins _ _ _ _ (c .count .ensures ∙ head _ _ _ (start .pre .0) 2 (start .args .j) _ (omega arith) (start .pre .1 .1) (omega arith))
+    walk-begins _ _ _ _ (c .count .ensures ∙ hangs (start .pre .0) (start .pre .1 .2) 2 (start .args .j) _ (omega arith) (start .pre .1 .1) (omega arith) .begins)
 
 sub-r : tie.Need-sub-r Inv-loop μ-loop
 sub-r c = search needs
@@ -55,7 +55,11 @@ element-copy-out-opposed c = search needs
 opposed-requires : tie.Need-opposed-requires Inv-loop μ-loop
 opposed-requires c κs =
     let start = c .before .before .before .before .before .before .before .before in
-    (hung _ _ _ (start .pre .0) 0 (start .args .i) _ (omega arith) (start .pre .1 .0) (omega arith), start .pre .1 .2)
+    record {
+      sort = 0;
+      to = start .args .i;
+      chain = hangs (start .pre .0) (start .pre .1 .2) 0 (start .args .i) _ (omega arith) (start .pre .1 .0) (omega arith);
+    }
 
 -- What the function began with.
 abbrev begun : tie.After-opposed Inv-loop μ-loop → tie.Start Inv-loop μ-loop
@@ -73,7 +77,7 @@ here c =
     let at = c .before .before .before .before .loop in
     let reads = c .before .before .read .ensures in
     let stands = walk-at _ _ _ (at .link) (at .inv) (at .link - 1) (omega arith) in
-    let begins = head _ _ _ (start .pre .0) 0 (start .args .i) (start .args .i) (omega arith) (start .pre .1 .0) (omega arith) in (
+    let begins = hangs (start .pre .0) (start .pre .1 .2) 0 (start .args .i) (start .args .i) (omega arith) (start .pre .1 .0) (omega arith) .begins in (
       stands .0,
       stands .1,
       c .opposed .ensures .holds 0 (start .args .i) begins
@@ -97,7 +101,11 @@ element-copy-out-opposed-2 c = search needs
 opposed-requires-2 : tie.Need-opposed-requires-2 Inv-loop μ-loop
 opposed-requires-2 c κs =
     let start = begun (c .before .before) in
-    (hung _ _ _ (start .pre .0) 1 (start .args .i) _ (omega arith) (start .pre .1 .0) (omega arith), start .pre .1 .2)
+    record {
+      sort = 1;
+      to = start .args .i;
+      chain = hangs (start .pre .0) (start .pre .1 .2) 1 (start .args .i) _ (omega arith) (start .pre .1 .0) (omega arith);
+    }
 
 -- What the second question asks of it.
 there : (c : tie.After-opposed2 Inv-loop μ-loop)
@@ -107,7 +115,7 @@ there c =
     let start = begun (c .before .before .before) in
     let tb : Table = table (start .args .t .now) in
     let reads = c .before .before .before .before .before .read .ensures in
-    let begins = head _ _ _ (start .pre .0) 1 (start .args .i) (64 + start .args .i) (omega arith) (start .pre .1 .0) (omega arith) in
+    let begins = hangs (start .pre .0) (start .pre .1 .2) 1 (start .args .i) (64 + start .args .i) (omega arith) (start .pre .1 .0) (omega arith) .begins in
     c .opposed2 .ensures .holds 1 (start .args .i) begins
     ∙ ap₂ (λ (a b : ℕ). some (tb .records) (λ k. arc-of tb 1 (start .args .i) k && alike tb a b k)) (reads .one) (reads .four)
 

@@ -77,7 +77,7 @@ returns c =
 inside : (c : tie.After-opposes Inv-loop μ-loop) → c .before .before .before .loop .link - 1 < length (begun c .args .next .now)
 inside c =
     let pre = begun c .pre in
-    omega (arith, here c (pre .0 .sort) (pre .0 .to) (pre .0 .begins) .0, pre .1)
+    omega (arith, here c (pre .sort) (pre .to) (pre .chain .begins) .0, pre .chain .enough)
 
 mul-onward : tie.Need-mul-onward Inv-loop μ-loop
 mul-onward c = omega (arith, inside (c .before), begun (c .before) .good .1 .0 .1)
@@ -99,15 +99,15 @@ next-link c sort u e =
     let tb : Table = table (start .args .t .now) in
     let r : ℕ = c .before .before .before .before .before .before .loop .link - 1 in
     let h = here (c .before .before .before) sort u e in
-    c .onward .ensures ∙ own-chain tb sort u r (h .1) (start .pre .0 .goes-on r (h .0))
+    c .onward .ensures ∙ own-chain tb sort u r (h .1) (start .pre .chain .goes-on r (h .0))
 
 loop-less : tie.Need-loop-less Inv-loop μ-loop
 loop-less c =
     let start = begun (c .before .before .before) in
     let tb : Table = table (start .args .t .now) in
     let r : ℕ = c .before .before .before .before .before .before .loop .link - 1 in
-    let chain = start .pre .0 in
-    omega (arith, next-link c (chain .sort) (chain .to) (chain .begins), link-le r (arc-of tb (chain .sort) (chain .to)))
+    let hung = start .pre in
+    omega (arith, next-link c (hung .sort) (hung .to) (hung .chain .begins), link-le r (arc-of tb (hung .sort) (hung .to)))
 
 loop-again : tie.Need-loop-again Inv-loop μ-loop
 loop-again c =
