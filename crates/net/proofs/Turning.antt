@@ -114,7 +114,7 @@ module _ (tb : Table) (D E : ℕ → Type 0) where
         record { weights = cells-retold (g .weights); sorts = cells-retold (g .sorts); lows = word-retold (g .lows); highs = word-retold (g .highs) }
 
   pub curbed-retold : ((k : ℕ) → Stops tb k → E k → D k) → {rows : List ℕ} → Curbed tb D rows → Curbed tb E rows
-  curbed-retold same g = record { size = g .size; whole = λ k stops e. g .whole k stops (same k stops e); sound = g .sound }
+  curbed-retold same g = record { room = g .room; whole = λ k stops e. g .whole k stops (same k stops e); sound = g .sound }
 
   -- Input arc r, from place a to transition b, passes too.
   module _ (r a b : ℕ) (asks : Asks tb r) (one : tb .one r ≡ a) (two : tb .two r ≡ b) (turns : (k : ℕ) → Asks tb k → E k → (k ≡ r) ⊎ D k) where
@@ -181,17 +181,17 @@ module _ (tb : Table) (D E : ℕ → Type 0) where
 
   -- Inhibitor arc r does.
   module _ (r a b : ℕ) (stops : Stops tb r) (one : tb .one r ≡ a) (two : tb .two r ≡ b) (turns : (k : ℕ) → Stops tb k → E k → (k ≡ r) ⊎ D k) where
-    pub curbed-turn : {rows : List ℕ} → Curbed tb D rows → a < 128 → (v : ℕ) → ((j : ℕ) → bit v j ≡ (bit (getD rows a 0) j || eqb b j))
+    pub curbed-turn : {rows : List ℕ} → Curbed tb D rows → (v : ℕ) → ((j : ℕ) → bit v j ≡ (bit (getD rows a 0) j || eqb b j))
         → Curbed tb E (set rows a v)
-    curbed-turn {rows} g low v bits =
+    curbed-turn {rows} g v bits =
         record {
-          size = length-set rows a v ∙ g .size;
+          room = λ k h. omega (arith, g .room k h, length-set rows a v);
           whole = λ k k-stops e. whole k k-stops (turns k k-stops e) (eqb a (tb .one k)) refl;
           sound = λ x y e. sound x y (eqb a x) refl e;
         }
       where
         same : (x y : ℕ) → eqb a x ≡ true → bit (getD (set rows a v) x 0) y ≡ (bit (getD rows x 0) y || eqb b y)
-        same x y e = rw (← eqb-true a x e) (ap (λ (z : ℕ). bit z y) (getD-set-same rows a v 0 (omega (arith, g .size))) ∙ bits y)
+        same x y e = rw (← eqb-true a x e) (ap (λ (z : ℕ). bit z y) (getD-set-same rows a v 0 (omega (arith, g .room r (stops .0), one))) ∙ bits y)
 
         other : (x y : ℕ) → eqb a x ≡ false → bit (getD (set rows a v) x 0) y ≡ bit (getD rows x 0) y
         other x y e = ap (λ (z : ℕ). bit z y) (getD-set-other rows a x v 0 (λ q. eqb-false a x e (sym q)))

@@ -49,15 +49,12 @@ module _ (tb : Table) where
   word-none from u c most =
       record { whole = λ k j d l joins. absurd (omega (arith, joins .1)); sound = λ j l e. not-both e (bit-zero j) }
 
-  pub curbed-none : Curbed tb (Before tb 0) (replicate 128 0)
-  curbed-none =
+  pub curbed-none : (rows : List ℕ) → rows ≡ replicate (length rows) 0 → ((k : ℕ) → k < tb .records → tb .one k < length rows) → Curbed tb (Before tb 0) rows
+  curbed-none rows empty room =
       record {
-        size = length-replicate {A = ℕ} 128 0;
+        room = room;
         whole = λ k stops d. absurd (omega arith);
-        sound = λ x y e.
-            not-both e
-            (ap (λ (v : ℕ). bit v y) (all-zero (replicate 128 0) (ap (λ (n : ℕ). replicate {A = ℕ} n 0) (sym (length-replicate {A = ℕ} 128 0))) x)
-            ∙ bit-zero y);
+        sound = λ x y e. not-both e (ap (λ (v : ℕ). bit v y) (all-zero rows empty x) ∙ bit-zero y);
       }
 
 -- Rows have the places, from number `from` on, of the input arcs of the transitions below u, and none but those of input arcs.

@@ -42,8 +42,8 @@ pub record Inputs (tb : Table) (u : ℕ) (D : ℕ → Type 0) (w s : List (List 
   pub lows : Word tb 0 u D low
   pub highs : Word tb 64 u D high
 
--- The row of a place has the transitions of the inhibitor arcs that pass, and none but those of inhibitor arcs.
+-- The row of a place has the transitions of the inhibitor arcs that pass, and none but those of inhibitor arcs; there is a row for each place.
 pub record Curbed (tb : Table) (D : ℕ → Type 0) (rows : List ℕ) : Type 0 where
-  pub size : length rows ≡ 128
+  pub room : (k : ℕ) → k < tb .records → tb .one k < length rows
   pub whole : (k : ℕ) → Stops tb k → D k → bit (getD rows (tb .one k) 0) (tb .two k) ≡ true
   pub sound : (x y : ℕ) → bit (getD rows x 0) y ≡ true → (k : ℕ) × Stops tb k × (tb .one k ≡ x) × (tb .two k ≡ y)

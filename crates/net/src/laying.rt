@@ -122,7 +122,7 @@ fn lay_inputs(
 }
 
 // The inhibitor arcs of transition u, whose chain begins with `first`, are added to those of their places.
-fn curb_chain(t: &[u8], curbs: &mut [u64; 128], next: &[u32], first: u16, u: usize)
+fn curb_chain(t: &[u8], curbs: &mut [u64], next: &[u32], first: u16, u: usize)
     requires { ⌜ check (now t) ≡ accepted 0 ⌝ }
     requires { ⌜ Hangs (table (now t)) 2 u first (now next) × (u < 64) ⌝ }
     requires { ⌜ Curbed (table (now t)) (Before (table (now t)) (4 * u + 2)) (now curbs) ⌝ }
@@ -156,12 +156,12 @@ fn gain_chain(t: &[u8], next: &[u32], first: u16, u: usize, already: u32) -> u32
 
 // Lays out the arcs, transition by transition, n of them: `heads` and `next` chain the arcs. `w` and `s` get the weights and the sorts of the input arcs,
 // place by transition, and `curbs` for each place who has an inhibitor arc from it. `low` and `high` get the places of each transition's input arcs: 0 to
-// 63, and the others. All are lent empty, `w` and `s` with a row for every place of the table. The answer is the weight of all post arcs together.
+// 63, and the others. All are lent empty, `w`, `s` and `curbs` with a row for every place of the table. The answer is the weight of all post arcs together.
 pub fn lay_arcs(
     t: &[u8],
     w: &mut [[u16; 64]],
     s: &mut [[u8; 64]],
-    curbs: &mut [u64; 128],
+    curbs: &mut [u64],
     low: &mut [u64],
     high: &mut [u64],
     heads: &[u16; 256],
@@ -169,11 +169,11 @@ pub fn lay_arcs(
     n: usize,
 ) -> u32
     requires { ⌜ check (now t) ≡ accepted 0 ⌝ }
-    requires { ⌜ (now w ≡ replicate (length (now w)) (replicate 64 0)) × (now s ≡ replicate (length (now w)) (replicate 64 0)) × (now curbs ≡ replicate 128 0) ⌝ }
+    requires { ⌜ (now w ≡ replicate (length (now w)) (replicate 64 0)) × (now s ≡ replicate (length (now w)) (replicate 64 0)) × (now curbs ≡ replicate (length (now curbs)) 0) ⌝ }
     requires { ⌜ (now low ≡ replicate (length (now low)) 0) × (now high ≡ replicate (length (now high)) 0) ⌝ }
     requires { ⌜ Chained (table (now t)) (now heads) (now next) × (table (now t) .records ≤ length (now next)) ⌝ }
     requires { ⌜ (n ≤ 64) × (n ≤ length (now low)) × (n ≤ length (now high)) × ((r : ℕ) → r < table (now t) .records → is (table (now t)) 3 r ≡ true → table (now t) .two r < n) ⌝ }
-    requires { ⌜ ((r : ℕ) → r < table (now t) .records → table (now t) .one r < length (now w)) ⌝ }
+    requires { ⌜ ((r : ℕ) → r < table (now t) .records → (table (now t) .one r < length (now w)) × (table (now t) .one r < length (now curbs))) ⌝ }
     ensures { λ _. ⌜ Weights (table (now (t .entry))) (now (w .exit)) × Sorts (table (now (t .entry))) (now (s .exit)) ⌝ }
     ensures { λ _. ⌜ Gathered (table (now (t .entry))) 3 2 (now (curbs .exit)) ⌝ }
     ensures { λ _. ⌜ Enters (table (now (t .entry))) (table (now (t .entry)) .records) (now (low .exit)) (now (high .exit)) ⌝ }

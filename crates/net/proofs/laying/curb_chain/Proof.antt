@@ -2,7 +2,7 @@
 use mathlib.Core.Path.{_≡_, refl, sym, ap, _∙_}
 use Prim.Native.Nat.{ℕ, suc, _+_, _-_, _*_, _≤_, _<_}
 use native.Mathlib.Omega.{arith}
-use lib.ListN.{length}
+use lib.ListN.{length, length-set}
 use borrow.Author.Needs.{needs}
 use Rattle.meaning.specs.Table.{Table, table}
 use Rattle.net.specs.Laid.{Before, Stops, Curbed}
@@ -13,7 +13,8 @@ use Rattle.net.proofs.laying.curb_chain.Statement.{statement}
 use Rattle.net.proofs.laying.curb_chain.Tie as tie
 
 abbrev Inv-loop : tie.InvT-loop
-Inv-loop t curbs₀ next first u alone link₀ curbs link = Along (table t) 2 u link × Curbed (table t) (Done (table t) (4 * u + 2) link) curbs
+Inv-loop t curbs₀ next first u alone link₀ curbs link =
+    Along (table t) 2 u link × Curbed (table t) (Done (table t) (4 * u + 2) link) curbs × (length curbs ≡ length curbs₀)
 
 abbrev μ-loop : tie.MeasureT-loop
 μ-loop t curbs₀ next first u alone link₀ curbs link = link
@@ -26,7 +27,7 @@ count-requires c κs = search needs
 
 loop-holds : tie.Need-loop-holds Inv-loop μ-loop
 loop-holds c =
-    let start = c .before .before .before .before in
+    let start = c .before .before .before .before .before in
     let a = start .args in
     let bs = a .t .now in
     let tb : Table = table bs in
@@ -36,6 +37,7 @@ loop-holds c =
           (λ k stops d.
           walk-starts tb 2 (a .u) (omega arith) (arc-sort bs (start .pre .0)) k (stops .0) (stops .1) (c .count .result) (c .count .ensures ∙ chain .begins) d)
           (start .pre .1 .1),
+      refl,
     )
 
 sub-r : tie.Need-sub-r Inv-loop μ-loop
@@ -43,37 +45,40 @@ sub-r c = search needs
 
 -- What the function began with.
 abbrev begun : tie.In-loop Inv-loop μ-loop → tie.Start Inv-loop μ-loop
-begun c = c .before .before .before .before .before .before
+begun c = c .before .before .before .before .before .before .before
 
 -- The arc at hand.
 module _ (c : tie.In-loop Inv-loop μ-loop) where
   here : Stands (table (begun c .args .t .now)) 2 (begun c .args .u) (c .before .loop .link)
   here = stands (begun c .pre .1 .0 .0) (c .before .loop .link) (c .before .loop .inv .0) (c .loop-test .taken)
 
-  near : table (begun c .args .t .now) .one (c .before .loop .link - 1) < 128
-  near = arc-ranges (begun c .args .t .now) (begun c .pre .0) (c .before .loop .link - 1) (here .inside) (here .kind-is) .0
+  near : table (begun c .args .t .now) .one (c .before .loop .link - 1) < length (c .before .loop .curbs)
+  near = c .before .loop .inv .1 .room (c .before .loop .link - 1) (here .inside)
+
+  low : table (begun c .args .t .now) .one (c .before .loop .link - 1) < 128
+  low = arc-ranges (begun c .args .t .now) (begun c .pre .0) (c .before .loop .link - 1) (here .inside) (here .kind-is) .0
 
 place-requires : tie.Need-place-requires Inv-loop μ-loop
 place-requires c κs = here c .inside
 
--- Its place is one of the 128.
-placed : (c : tie.After-place Inv-loop μ-loop) → c .place .result < 128
-placed c = omega (arith, c .place .ensures, near (c .before))
+-- Its place is one of the 128, and has its row.
+placed : (c : tie.After-place Inv-loop μ-loop) → (c .place .result < 128) × (c .place .result < length (c .before .before .loop .curbs))
+placed c = (omega (arith, c .place .ensures, low (c .before)), omega (arith, c .place .ensures, near (c .before)))
 
 mul-union : tie.Need-mul-union Inv-loop μ-loop
-mul-union c = omega (arith, placed c)
+mul-union c = omega (arith, placed c .0)
 
-element-copy-out-union : tie.Need-element-copy-out-union Inv-loop μ-loop
-element-copy-out-union c = placed c
+slice-read-union : tie.Need-slice-read-union Inv-loop μ-loop
+slice-read-union c = placed (c .before) .1
 
 union-requires : tie.Need-union-requires Inv-loop μ-loop
 union-requires c κs = search needs
 
 mul-curbs : tie.Need-mul-curbs Inv-loop μ-loop
-mul-curbs c = omega (arith, placed (c .before .before))
+mul-curbs c = omega (arith, placed (c .before .before) .0)
 
-element-write-curbs : tie.Need-element-write-curbs Inv-loop μ-loop
-element-write-curbs c = placed (c .before .before)
+slice-write-curbs : tie.Need-slice-write-curbs Inv-loop μ-loop
+slice-write-curbs c = placed (c .before .before) .1
 
 -- Where the turn of a union found its arc.
 abbrev turn : tie.After-union Inv-loop μ-loop → tie.In-loop Inv-loop μ-loop
@@ -116,14 +121,15 @@ loop-again c =
       curbed-turn tb (Done tb (4 * a .u + 2) (at .link)) (Done tb (4 * a .u + 2) (c .onward .result)) r (placed .result) (a .u)
           (o .inside, o .kind-is, o .sort-is) (sym (placed .ensures)) (o .two-is)
           (λ k x d. walk-turns tb 2 (a .u) (omega arith) (arc-sort bs (start .pre .0)) k (x .0) (x .1) r (at .link) (c .onward .result) (o .next) next d)
-          (at .inv .1) (omega (arith, placed .ensures, near in-loop)) (joined .union .result)
+          (at .inv .1) (joined .union .result)
           (λ j. joined .union .ensures j ∙ rw (in-loop .before .before .before .single .ensures j)),
+      length-set (at .curbs) (placed .result) _ ∙ at .inv .2,
     )
 
 returns : tie.Need-returns Inv-loop μ-loop
 returns c =
     let at = c .before .loop in
-    let start = c .before .before .before .before .before .before in
+    let start = c .before .before .before .before .before .before .before in
     let a = start .args in
     let tb : Table = table (a .t .now) in
     curbed-retold tb (Done tb (4 * a .u + 2) (at .link)) _
@@ -143,13 +149,14 @@ curb-chain-spec =
     sub-r
     place-requires
     mul-union
-    element-copy-out-union
+    slice-read-union
     union-requires
     mul-curbs
-    element-write-curbs
+    slice-write-curbs
     mul-onward
     shared-slice-read-onward
     onward-requires
     loop-less
     loop-again
+    (λ c. c .before .loop .inv .2)
     returns)

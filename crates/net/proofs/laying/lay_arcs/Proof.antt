@@ -4,7 +4,7 @@ use mathlib.Core.Path.{_≡_, refl, sym, ap, _∙_, subst}
 use Prim.Native.Nat.{ℕ, _+_, _*_, _-_, _≤_, _<_}
 use native.Mathlib.Nat.{zero-add}
 use native.Mathlib.Omega.{arith}
-use lib.ListN.{length, length-replicate, length-set}
+use lib.ListN.{length, length-set}
 use borrow.Author.Needs.{needs}
 use borrow.Author.Tests.{eq-eqb}
 use Rattle.meaning.specs.Table.{Table, table, total}
@@ -28,24 +28,24 @@ record Part (tb : Table) (u : ℕ) (w s : List (List ℕ)) (curbs low high : Lis
 abbrev Inv-loop : tie.InvT-loop
 Inv-loop t w₀ s₀ curbs₀ low₀ high₀ heads next n gain₀ u₀ w s curbs low high gain u =
     (u ≤ n) × Part (table t) u w s curbs low high gain × (length w ≡ length w₀) × (length s ≡ length s₀) × (length low ≡ length low₀)
-    × (length high ≡ length high₀)
+    × (length high ≡ length high₀) × (length curbs ≡ length curbs₀)
 
 abbrev μ-loop : tie.MeasureT-loop
 μ-loop t w₀ s₀ curbs₀ low₀ high₀ heads next n gain₀ u₀ w s curbs low high gain u = n - u
 
 loop-holds : tie.Need-loop-holds Inv-loop μ-loop
 loop-holds c =
-    let start = c .before .before .before .before in
+    let start = c .before .before .before .before .before in
     let tb : Table = table (start .args .t .now) in
     let rows : ℕ = length (start .args .w .now) in
     let first = start .pre .1 .0 in
     let second = start .pre .1 .1 .0 in
-    let places = start .pre .1 .1 .1 .1 .1 in (
+    let places : (r : ℕ) → r < tb .records → tb .one r < rows = λ r h. start .pre .1 .1 .1 .1 .1 r h .0 in (
       omega arith,
       record {
         weights = subst (Cells tb (tb .four) (Before tb 0)) (sym (first .0)) (cells-none tb (tb .four) rows places);
         sorts = subst (Cells tb (tb .sort) (Before tb 0)) (sym (first .1)) (cells-none tb (tb .sort) rows places);
-        curbing = subst (Curbed tb (Before tb 0)) (sym (first .2)) (curbed-none tb);
+        curbing = curbed-none tb _ (first .2) (λ r h. start .pre .1 .1 .1 .1 .1 r h .1);
         lows = places-none tb 0 _ (second .0);
         highs = places-none tb 64 _ (second .1);
         gains = sym (gain-none tb);
@@ -54,11 +54,12 @@ loop-holds c =
       refl,
       refl,
       refl,
+      refl,
     )
 
 -- What the function began with.
 abbrev begun : tie.At-loop Inv-loop μ-loop → tie.Start Inv-loop μ-loop
-begun c = c .before .before .before .before .before
+begun c = c .before .before .before .before .before .before
 
 -- The transition at hand has a column and a row.
 small : (c : tie.In-loop Inv-loop μ-loop) → let at = c .before .loop in (at .u < 64) × (at .u < length (at .low)) × (at .u < length (at .high))
@@ -105,7 +106,7 @@ gained c =
 
 gain-chain-requires : tie.Need-gain-chain-requires Inv-loop μ-loop
 gain-chain-requires c κs =
-    let in-loop = c .before .before .before .before .before .before .before .before .before in
+    let in-loop = c .before .before .before .before .before .before .before .before .before .before .before in
     let start = begun (in-loop .before) in
     let at = in-loop .before .loop in
     let chained = start .pre .1 .1 .1 .0 in
@@ -114,7 +115,7 @@ gain-chain-requires c κs =
 
 -- Where the turn of a gain began.
 abbrev turn : tie.After-gain-chain Inv-loop μ-loop → tie.In-loop Inv-loop μ-loop
-turn c = c .before .before .before .before .before .before .before .before .before .before
+turn c = c .before .before .before .before .before .before .before .before .before .before .before .before
 
 mul-low : tie.Need-mul-low Inv-loop μ-loop
 mul-low c = omega (arith, small (turn c) .0)
@@ -136,14 +137,14 @@ loop-again c =
     let at = in-loop .before .loop in
     let u : ℕ = at .u in
     let part = at .inv .1 in
-    let laid = c .before .before .before .before .before .before .before .lay-inputs in
+    let laid = c .before .before .before .before .before .before .before .before .before .lay-inputs in
     let inputs = laid .ensures in
     let before : (k : ℕ) → Asks tb k → Before tb (4 * (u + 1)) k → Before tb (4 * u + 3) k = λ k asks b. omega (arith, asks .2, b) in (
       omega arith,
       record {
         weights = cells-retold tb (Before tb (4 * u + 3)) _ before (inputs .weights);
         sorts = cells-retold tb (Before tb (4 * u + 3)) _ before (inputs .sorts);
-        curbing = curbed-retold tb (Before tb (4 * u + 3)) _ (λ k stops b. omega (arith, stops .2, b)) (c .before .before .curb-chain .ensures);
+        curbing = curbed-retold tb (Before tb (4 * u + 3)) _ (λ k stops b. omega (arith, stops .2, b)) (c .before .before .before .before .curb-chain .ensures);
         lows = places-more tb 0 u _ (part .lows) (small in-loop .1) (4 * u + 3) _ (omega arith) (inputs .lows);
         highs = places-more tb 64 u _ (part .highs) (small in-loop .2) (4 * u + 3) _ (omega arith) (inputs .highs);
         gains = c .gain-chain .ensures ∙ gained in-loop .0;
@@ -152,6 +153,7 @@ loop-again c =
       laid .kept .1 .1 .0 ∙ at .inv .3,
       length-set (at .low) u _ ∙ at .inv .4,
       length-set (at .high) u _ ∙ at .inv .5,
+      c .before .before .before .curbs .given ∙ at .inv .6,
     )
 
 returns : tie.Need-returns Inv-loop μ-loop
@@ -214,6 +216,7 @@ lay-arcs-spec =
     loop-again
     (λ c. c .before .loop .inv .2)
     (λ c. c .before .loop .inv .3)
+    (λ c. c .before .loop .inv .6)
     (λ c. c .before .loop .inv .4)
     (λ c. c .before .loop .inv .5)
     returns)
