@@ -203,9 +203,9 @@ lay-arcs-spec =
     (λ c. omega arith)
     (λ c. omega arith)
     curb-chain-requires
-    (λ c. omega arith)
-    (λ c. omega arith)
-    (λ c. omega arith)
+    (λ c. omega (arith, small (c .before .before .before .before .before .before .before .before .before .before) .0))
+    (λ c. omega (arith, small (c .before .before .before .before .before .before .before .before .before .before) .0))
+    (λ c. omega (arith, small (c .before .before .before .before .before .before .before .before .before .before) .0))
     gain-chain-requires
     mul-low
     slice-write-low
