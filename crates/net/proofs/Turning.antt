@@ -106,7 +106,7 @@ module _ (tb : Table) (D E : ℕ → Type 0) where
     pub cells-retold : {f : ℕ → ℕ} {w : List (List ℕ)} → Cells tb f D w → Cells tb f E w
     cells-retold g = record { wide = g .wide; room = g .room; own = λ k asks e. g .own k asks (same k asks e); bare = g .bare }
 
-    pub word-retold : {from u x : ℕ} → Word tb from u D x → Word tb from u E x
+    word-retold : {from u x : ℕ} → Word tb from u D x → Word tb from u E x
     word-retold g = record { whole = λ k j e l joins. g .whole k j (same k (joins .0) e) l joins; sound = g .sound }
 
     pub inputs-retold : {u : ℕ} {w s : List (List ℕ)} {low high : ℕ} → Inputs tb u D w s low high → Inputs tb u E w s low high
@@ -118,7 +118,7 @@ module _ (tb : Table) (D E : ℕ → Type 0) where
 
   -- Input arc r, from place a to transition b, passes too.
   module _ (r a b : ℕ) (asks : Asks tb r) (one : tb .one r ≡ a) (two : tb .two r ≡ b) (turns : (k : ℕ) → Asks tb k → E k → (k ≡ r) ⊎ D k) where
-    pub cells-turn : {f : ℕ → ℕ} {w : List (List ℕ)} → Cells tb f D w
+    cells-turn : {f : ℕ → ℕ} {w : List (List ℕ)} → Cells tb f D w
         → ((k : ℕ) → Asks tb k → tb .one k ≡ tb .one r → tb .two k ≡ tb .two r → k ≡ r) → b < 64 → (v : ℕ) → v ≡ f r
         → Cells tb f E (set w a (set (getD w a []) b v))
     cells-turn {f} {w} g once low v says =
@@ -151,7 +151,7 @@ module _ (tb : Table) (D E : ℕ → Type 0) where
             absurd (none r (asks, two ∙ eqb-true b t (and-right (eqb a p) _ x), one ∙ eqb-true a p (and-left _ (eqb b t) x)))
         bare p t l none false x = g .bare p t l none
 
-    pub word-turn : {from x : ℕ} → Word tb from b D x → (y : ℕ) → ((j : ℕ) → j < 64 → bit y j ≡ (bit x j || eqb a (from + j))) → Word tb from b E y
+    word-turn : {from x : ℕ} → Word tb from b D x → (y : ℕ) → ((j : ℕ) → j < 64 → bit y j ≡ (bit x j || eqb a (from + j))) → Word tb from b E y
     word-turn {from} {x} g y bits =
         record {
           whole = λ k j e l joins.

@@ -1,25 +1,23 @@
 -- All arcs are laid out: before the first transition nothing is, a transition adds its own arcs to those of the transitions before it, and after the last
 -- each cell, bit and sum is that of all records.
-use mathlib.Core.Bool.{Bool, true, false, cond, _&&_, _||_, and-false}
+use mathlib.Core.Bool.{Bool, true, false, cond, _&&_, and-false}
 use mathlib.Core.List.{List, []}
-use mathlib.Core.Logic.{⊎-elim}
 use mathlib.Core.Path.{_≡_, refl, sym, ap, ap₂, _∙_}
 use Prim.Native.Nat.{ℕ, zero, suc, _+_, _*_, _≤_, _<_}
 use native.Mathlib.Nat.{add-zero, zero-add}
 use native.Mathlib.Omega.{arith}
 use lib.Dec.{eqb, ltb}
-use lib.ListN.{length, getD, set, replicate, length-set, length-replicate, getD-replicate, List·getD-eq-default}
+use lib.ListN.{length, getD, set, replicate, length-replicate, getD-replicate, List·getD-eq-default}
 use lib.Seq.{getD-set-same, getD-set-other}
-use borrow.Author.Tests.{eqb-true, eqb-false, eq-eqb, ne-eqb, lt-ltb, ltb-true, ltb-false, le-ltb}
+use borrow.Author.Tests.{eqb-true, eqb-false, eq-eqb, lt-ltb, ltb-true, ltb-false, le-ltb}
 use Rattle.meaning.specs.Below.{some, sum}
 use Rattle.meaning.specs.Bytes.{bit}
 use Rattle.meaning.specs.Table.{Table, total, is, arc}
-use Rattle.meaning.proofs.Bool.{either, not-both, and-left, and-right, and-true, same-test}
+use Rattle.meaning.proofs.Bool.{not-both, and-left, and-true, same-test}
 use Rattle.meaning.proofs.Below.{some-intro, some-elim, none-elim, sum-same, sum-zero, sum-add}
 use Rattle.sets.proofs.Bits.{bit-zero}
 use Rattle.sets.proofs.Rows.{all-zero}
 use Rattle.net.specs.Rows.{Gathered, latest, cell, input}
-use Rattle.net.specs.Grow.{Grown}
 use Rattle.net.specs.Chains.{link, arc-of, between, asking}
 use Rattle.net.specs.Laid.{Before, Asks, Stops, Joins, Cells, Word, Curbed}
 use Rattle.net.proofs.Carry.{each, latest-is, latest-none}

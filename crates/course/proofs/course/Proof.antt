@@ -13,67 +13,85 @@ use Rattle.course.proofs.Turns.{fitting}
 use Rattle.course.proofs.course.Statement.{statement}
 use Rattle.course.proofs.course.Tie as tie
 
-lay-arcs-requires : tie.Need-lay-arcs-requires
-lay-arcs-requires c κs =
-    let start = c .before .before .before .before .before .before .before .before .before .before .before .before .before .before .before .before .before .before .before in
-    let pre = start .pre in
-    let words = pre .1 .1 .1 .1 .0 in (
-      pre .0 .sound,
-      (
-        (pre .1 .0, pre .1 .1 .0, refl),
-        (
-          (words .0, words .1),
-          (
-            λ r h e.
-                let low = named (pre .0) r h e in
-                (omega (arith, low, words .2), omega (arith, low, words .3)),
-            λ r h. omega (arith, pre .0 .below r h .0, pre .1 .1 .1 .0 .enough),
-          ),
-        ),
-      ),
-    )
-
 transitions-requires : tie.Need-transitions-requires
 transitions-requires c κs = search needs
 
 -- The way back: from the cycles to the limits, from there to the bound, to where the transitions below the reach are counted, and to the start.
 abbrev begun : tie.After-transitions → tie.Start
-begun c = c .before .before .before .before .before .before .before .before .before .before .before .before .before .before .before .before .before .before .before .before .before .before .before .before .before .before .before
+begun c = c .before .before .before .before .before .before .before .before .before .before .before .before .before .before .before .before
 
 abbrev counted : tie.After-bound → tie.After-transitions
-counted c = c .before .before .before .before .before .before .before
+counted c = c .before .before .before .before .before .before .before .before .before .before .before .before .before .before .before .before .before .before .before .before .before
 
 abbrev bounded : tie.After-limits → tie.After-bound
 bounded c = c .before .before .before .before .before .before .before
 
-abbrev limited : tie.After-curbs2 → tie.After-limits
+abbrev limited : tie.After-cycles-arg11 → tie.After-limits
 limited c = c .before .before .before .before .before .before .before .before .before .before .before .before .before .before .before
+
+-- Where the rows are that were laid out.
+abbrev highs : tie.After-bound → tie.After-high
+highs c = c .before .before .before .before .before .before .before .before
+
+abbrev lows : tie.After-bound → tie.After-low
+lows c = highs c .before .before
+
+abbrev curbings : tie.After-bound → tie.After-curbs
+curbings c = lows c .before .before
 
 -- The index has its eight rows for every number below the reach.
 spacious : (c : tie.Start) → 8 * c .args .reach ≤ length (c .args .index .now)
 spacious c = omega (arith, c .pre .0 .index-long, c .pre .0 .housing .enough)
 
--- Where the words of places are laid out.
-abbrev highs : tie.After-transitions → tie.After-high
-highs c = c .before .before
+-- The inhibitor arcs are lent as many rows as the weights.
+lent : (c : tie.Start) → length (c .args .curbs .now) ≡ length (c .args .w .now)
+lent c = ap length (c .pre .1 .1 .1 .1 .1 .0 .0) ∙ length-replicate {A = ℕ} (length (c .args .w .now)) 0
 
-abbrev lows : tie.After-transitions → tie.After-low
-lows c = highs c .before .before
+lay-arcs-requires : tie.Need-lay-arcs-requires
+lay-arcs-requires c κs =
+    let fewer = c .before .before .before .before .before in
+    let few = fewer .transitions .ensures in
+    let start = begun fewer in
+    let pre = start .pre in
+    let words = pre .1 .1 .1 .1 .0 in
+    let curbs : List ℕ = start .args .curbs .now in (
+      pre .0 .sound,
+      (
+        (pre .1 .0, pre .1 .1 .0, subst (λ (n : ℕ). curbs ≡ replicate n 0) (sym (lent start)) (pre .1 .1 .1 .1 .1 .0 .0)),
+        (
+          (words .0, words .1),
+          (
+            (pre .0 .chains, pre .0 .links),
+            (
+              (
+                omega (arith, few, few-transitions (start .args .reach)),
+                omega (arith, few, words .2),
+                omega (arith, few, words .3),
+                λ r h e. omega (arith, few, named (pre .0) r h e),
+              ),
+              λ r h.
+              let low = pre .0 .below r h .0 in
+              (omega (arith, low, pre .1 .1 .1 .0 .enough), omega (arith, low, pre .1 .1 .1 .0 .enough, lent start)),
+            ),
+          ),
+        ),
+      ),
+    )
 
 rivals-requires : tie.Need-rivals-requires
 rivals-requires c κs =
-    let fewer = c .before .before .before in
+    let fewer = c .before .before .before .before .before .before .before .before .before .before .before .before .before .before .before .before .before in
     let pre = begun fewer .pre in
     let words = pre .1 .1 .1 .1 .0 in (
       unranked (pre .0) _ (fewer .transitions .ensures),
       omega (arith, fewer .transitions .ensures, pre .0 .higher-long),
-      omega (arith, fewer .transitions .ensures, words .2, lows fewer .low .given),
-      omega (arith, fewer .transitions .ensures, words .3, highs fewer .high .given),
+      omega (arith, fewer .transitions .ensures, words .2, c .before .before .before .before .before .before .low .given),
+      omega (arith, fewer .transitions .ensures, words .3, c .before .before .before .before .high .given),
     )
 
 bound-requires : tie.Need-bound-requires
 bound-requires c κs =
-    let start = begun (c .before .before .before .before .before .before) in
+    let start = begun (c .before .before .before .before .before .before .before .before .before .before .before .before .before .before .before .before .before .before .before .before) in
     (spacious start, start .pre .0 .reaches)
 
 eights-requires : tie.Need-eights-requires
@@ -113,13 +131,13 @@ cycles-requires c κs =
     let bound = eights .before in
     let turned = bound .before .before in
     let rivals = turned .before in
-    let fewer = rivals .before .before .before .before in
-    let sorts = lows fewer .before in
+    let fewer = counted bound in
+    let sorts = curbings bound .before in
     let weights = sorts .before in
     let laid = weights .before in
     let arcs = laid .lay-arcs .ensures in
     let given = begun fewer .pre in
-    let words : (q : ℕ) → getD (begun fewer .args .index .now) q 0 < 2 ^ 64 = λ q. omega (arith, fewer .before .before .before .before .before .before .before .before .before .before .before .before .before .before .before .before .before .before .before .before .before .before .shared-slice-known3 .given q) in
+    let words : (q : ℕ) → getD (begun fewer .args .index .now) q 0 < 2 ^ 64 = λ q. omega (arith, fewer .before .before .before .before .before .before .before .before .before .before .before .shared-slice-known3 .given q) in
     let rows : ℕ = length (begun fewer .args .w .now) in
     let housing : Housing (begun fewer .args .reach) rows = given .1 .1 .1 .0 in
     let alike : length (begun fewer .args .s .now) ≡ rows = ap length (given .1 .1 .0) ∙ length-replicate rows (replicate 64 0) in
@@ -129,15 +147,16 @@ cycles-requires c κs =
     λ xs e. rw (weights .w .given) e in (
       net-of (given .0) _ (known .known .ensures) _ (timed .timed .ensures) words _ (asked .conditional .ensures) _ (bound .bound .ensures) _ (eights .eights .ensures)
           _ _ (limited c .limits .ensures) _ _ (arcs .1 .1 .0) _ _ (rivals .rivals .ensures)
-          (omega (arith, given .0 .higher-long, turned .higher .given), omega (arith, ranks .2, lows fewer .low .given), omega (arith, ranks .3, highs fewer .high .given)) _ _ (arcs .0 .0) (arcs .0 .1)
-          (subst (Housing _) (sym (weights .w .given)) housing) (sorts .s .given ∙ alike ∙ sym (weights .w .given)) _ (arcs .1 .0),
+          (omega (arith, given .0 .higher-long, turned .higher .given), omega (arith, ranks .2, lows bound .low .given), omega (arith, ranks .3, highs bound .high .given)) _ _ (arcs .0 .0) (arcs .0 .1)
+          (subst (Housing _) (sym (weights .w .given)) housing) (sorts .s .given ∙ alike ∙ sym (weights .w .given)) _ (arcs .1 .0)
+          (curbings bound .curbs .given ∙ lent (begun fewer) ∙ sym (weights .w .given)),
       (
         (bound .bound .ensures .0, omega (arith, bound .bound .ensures .1, eights .eights .ensures .0)),
         (
           arcs .1 .1 .1 .0,
           (
             arcs .1 .1 .1 .1,
-            ((refl, refl), ((empty _ (kept .0), empty _ (kept .1), empty _ (kept .2)), given .1 .1 .1 .1 .1 .1)),
+            ((refl, refl), ((empty _ (kept .1), empty _ (kept .2), empty _ (kept .3)), given .1 .1 .1 .1 .1 .1)),
           ),
         ),
       ),
@@ -170,40 +189,6 @@ keep-requires c κs =
       ),
     )
 
-same-length : tie.Need-same-length
-same-length c = search needs
-
-same-length-2 : tie.Need-same-length-2
-same-length-2 c = search needs
-
--- The rows keep their number.
-abbrev counted-at : tie.After-slice-known16 → tie.After-transitions
-counted-at c = counted (filled (ended (c .before .before .before)) .before)
-
-same-length-3 : tie.Need-same-length-3
-same-length-3 c = filled (ended (c .before .before .before)) .before .before .before .higher .given
-
-same-length-4 : tie.Need-same-length-4
-same-length-4 c = lows (counted-at c) .before .before .w .given
-
-same-length-5 : tie.Need-same-length-5
-same-length-5 c = lows (counted-at c) .before .s .given
-
-same-length-6 : tie.Need-same-length-6
-same-length-6 c = lows (counted-at c) .low .given
-
-same-length-7 : tie.Need-same-length-7
-same-length-7 c = highs (counted-at c) .high .given
-
-same-length-8 : tie.Need-same-length-8
-same-length-8 c = c .before .before .before .before .before .before .before .before .before .before .before .held .given
-
-same-length-9 : tie.Need-same-length-9
-same-length-9 c = c .before .before .before .before .before .before .before .before .before .lacks .given
-
-same-length-10 : tie.Need-same-length-10
-same-length-10 c = c .before .before .before .before .before .before .before .shown .given
-
 returns : tie.Need-returns
 returns c =
     let kept = c .before .before in
@@ -214,8 +199,8 @@ pub course-spec : {M : Type 1} → statement M
 course-spec =
     tie.close
     (tie.spec
-    lay-arcs-requires
     transitions-requires
+    lay-arcs-requires
     rivals-requires
     bound-requires
     eights-requires
@@ -226,14 +211,15 @@ course-spec =
     cycles-requires
     mul-keep
     keep-requires
-    same-length
-    same-length-2
-    same-length-3
-    same-length-4
-    same-length-5
-    same-length-6
-    same-length-7
-    same-length-8
-    same-length-9
-    same-length-10
+    (λ c. search needs)
+    (λ c. search needs)
+    (λ c. filled (ended (c .before .before .before)) .before .before .before .higher .given)
+    (λ c. curbings (filled (ended (c .before .before .before)) .before) .before .before .w .given)
+    (λ c. curbings (filled (ended (c .before .before .before)) .before) .before .s .given)
+    (λ c. curbings (filled (ended (c .before .before .before)) .before) .curbs .given)
+    (λ c. lows (filled (ended (c .before .before .before)) .before) .low .given)
+    (λ c. highs (filled (ended (c .before .before .before)) .before) .high .given)
+    (λ c. c .before .before .before .before .before .before .before .before .before .before .before .held .given)
+    (λ c. c .before .before .before .before .before .before .before .before .before .lacks .given)
+    (λ c. c .before .before .before .before .before .before .before .shown .given)
     returns)

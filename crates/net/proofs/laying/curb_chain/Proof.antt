@@ -1,11 +1,11 @@
 -- `curb_chain` meets its contract: the inhibitor arcs of the chain from the link on stand in the rows of their places, and at the end of the chain all do.
-use mathlib.Core.Path.{_≡_, refl, sym, ap, _∙_}
-use Prim.Native.Nat.{ℕ, suc, _+_, _-_, _*_, _≤_, _<_}
+use mathlib.Core.Path.{sym, _∙_}
+use Prim.Native.Nat.{ℕ, _+_, _-_, _*_, _<_}
 use native.Mathlib.Omega.{arith}
 use lib.ListN.{length, length-set}
 use borrow.Author.Needs.{needs}
 use Rattle.meaning.specs.Table.{Table, table}
-use Rattle.net.specs.Laid.{Before, Stops, Curbed}
+use Rattle.net.specs.Laid.{Before, Curbed}
 use Rattle.net.proofs.Arcs.{arc-ranges, arc-sort, few-records}
 use Rattle.net.proofs.Turning.{Done, walk-starts, walk-turns, walk-over, curbed-retold, curbed-turn}
 use Rattle.net.proofs.Walks.{Along, Stands, along-begins, stands, following, along-goes-on, along-less}

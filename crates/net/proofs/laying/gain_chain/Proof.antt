@@ -1,9 +1,8 @@
 -- `gain_chain` meets its contract: what is added and what the arcs before the link weigh is what there was and what all weigh.
 use mathlib.Core.Bool.{cond}
 use mathlib.Core.Path.{_≡_, refl, sym, ap, _∙_}
-use Prim.Native.Nat.{ℕ, suc, _+_, _-_, _*_, _≤_, _<_}
+use Prim.Native.Nat.{ℕ, _+_, _-_}
 use native.Mathlib.Omega.{arith}
-use lib.ListN.{length}
 use borrow.Author.Needs.{needs}
 use Rattle.meaning.specs.Below.{sum}
 use Rattle.meaning.specs.Table.{Table, table}

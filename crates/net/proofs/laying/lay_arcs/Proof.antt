@@ -5,9 +5,8 @@ use Prim.Native.Nat.{ℕ, _+_, _*_, _-_, _≤_, _<_}
 use native.Mathlib.Nat.{zero-add}
 use native.Mathlib.Omega.{arith}
 use lib.ListN.{length, length-set}
-use borrow.Author.Needs.{needs}
 use borrow.Author.Tests.{eq-eqb}
-use Rattle.meaning.specs.Table.{Table, table, total}
+use Rattle.meaning.specs.Table.{Table, table}
 use Rattle.net.specs.Laid.{Before, Asks, Cells, Curbed}
 use Rattle.net.proofs.Arcs.{arc-ranges, few-records, input-once}
 use Rattle.net.proofs.Turning.{cells-retold, curbed-retold}
