@@ -70,8 +70,8 @@ lay-arcs-requires c κs =
                 λ r h e. omega (arith, few, named (pre .0) r h e),
               ),
               λ r h.
-              let low = pre .0 .below r h .0 in
-              (omega (arith, low, pre .1 .1 .1 .0 .enough), omega (arith, low, pre .1 .1 .1 .0 .enough, lent start)),
+                  let low = pre .0 .below r h .0 in
+                  (omega (arith, low, pre .1 .1 .1 .0 .enough), omega (arith, low, pre .1 .1 .1 .0 .enough, lent start)),
             ),
           ),
         ),

@@ -1,5 +1,5 @@
 -- `curb_chain` meets its contract: the inhibitor arcs of the chain from the link on stand in the rows of their places, and at the end of the chain all do.
-use mathlib.Core.Path.{sym, _∙_}
+use mathlib.Core.Path.{_≡_, refl, sym, _∙_}
 use Prim.Native.Nat.{ℕ, _+_, _-_, _*_, _<_}
 use native.Mathlib.Omega.{arith}
 use lib.ListN.{length, length-set}
