@@ -28,7 +28,8 @@ use Rattle.enabled.proofs.Laid.{inputs-hold, curbed}
 use Rattle.edges.specs.Edges.{Limits}
 use Rattle.fire.specs.Rivals.{Rivals}
 use Rattle.cycle.specs.Step.{Net-of}
-use Rattle.cycle.proofs.Facts.{arcs, input-once, fine}
+use Rattle.net.proofs.Arcs.{input-once}
+use Rattle.cycle.proofs.Facts.{arcs, fine}
 use Rattle.course.specs.Course.{Read, Housing}
 
 -- Whoever is the lower one in no pair has nobody above it.

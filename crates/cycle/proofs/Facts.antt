@@ -1,20 +1,19 @@
 -- What an accepted table says of its arcs and timings, in the words of the laws about rows.
 use mathlib.Core.Bool.{false}
 use mathlib.Core.List.{List}
-use mathlib.Core.Path.{_≡_, sym, ap}
+use mathlib.Core.Path.{_≡_, ap}
 use Prim.Native.Nat.{ℕ, _≤_, _<_}
 use native.Mathlib.Omega.{arith}
 use borrow.Author.Tests.{eqb-true, not-false}
 use Rattle.meaning.specs.Table.{table, transition, timing}
 use Rattle.meaning.specs.Answer.{Answer, accepted}
 use Rattle.meaning.specs.Defined.{fault, faulty, table-checks, check}
-use Rattle.meaning.specs.Says.{Same}
 use Rattle.meaning.proofs.Bool.{not-both}
 use Rattle.meaning.proofs.Rows.{transition-decides}
 use Rattle.meaning.proofs.Same.{of-kind, shown-arc}
 use Rattle.meaning.proofs.Decide.{accepted-clean}
 use Rattle.meaning.proofs.Tables.{table-refusing}
-use Rattle.meaning.proofs.Sound.{Sound-table, check-sound, same-record, declared-none}
+use Rattle.meaning.proofs.Sound.{Sound-table, check-sound, declared-none}
 use Rattle.meaning.proofs.Accepted.{accepted-well}
 
 module _ (bs : List ℕ) (e : check bs ≡ accepted 0) where
@@ -26,13 +25,6 @@ module _ (bs : List ℕ) (e : check bs ≡ accepted 0) where
   arcs r h k =
       let range = shown-arc (of-kind (table bs) r 3 (sound .shown r h) k) in
       (omega (arith, range .0), omega (arith, range .1), accepted-well bs e .arc-weight r h k, range .2)
-
-  -- No two input arcs join one place and one transition.
-  pub input-once : (r s : ℕ) → r < table bs .records → s < table bs .records → table bs .kind r ≡ 3 → table bs .kind s ≡ 3
-      → table bs .sort r < 3 → table bs .sort s < 3 → table bs .one r ≡ table bs .one s → table bs .two r ≡ table bs .two s → r ≡ s
-  input-once r s h l k m a b o t =
-      same-record (table bs) sound r s h l (Same.input-arc k m (omega arith) (omega arith) o t)
-      (Same.input-arc m k (omega arith) (omega arith) (sym o) (sym t))
 
   -- What is no transition is not timed.
   pub untimed : (t : ℕ) → transition (table bs) t ≡ false → timing (table bs) t ≡ 0

@@ -34,14 +34,14 @@ use Rattle.moves.specs.Tallied.{Tallied, moved-by}
 use Rattle.moves.proofs.Carry.{withdrawn-same, taken-is, put-is, some-moved, none-past, gain-covers}
 use Rattle.moves.proofs.Sums.{load-most}
 use Rattle.moves.proofs.Turns.{in-range}
-use Rattle.net.proofs.Arcs.{few-records}
+use Rattle.net.proofs.Arcs.{few-records, input-once}
 use Rattle.fire.specs.Fired.{Ranks, Fires, Housed}
 use Rattle.fire.proofs.Carry.{well-ranks, fires-is, rivals-rank, rivals-suffice}
 use Rattle.settle.specs.Settle.{new-at, Low, Paid, Still, Lacks, Crowded, Settled, Starves}
 use Rattle.settle.proofs.Carry.{starves-same}
 use Rattle.report.proofs.Carry.{bits-of, actions-are, functions-are}
 use Rattle.cycle.specs.Step.{Net-of, Sized, Poised, Under, Stepped}
-use Rattle.cycle.proofs.Facts.{sound, arcs, input-once, untimed, fine}
+use Rattle.cycle.proofs.Facts.{sound, arcs, untimed, fine}
 
 -- Four tests, the last three together.
 grouped : (a b c d : Bool) → (a && b && c && d) ≡ (a && (b && c && d))

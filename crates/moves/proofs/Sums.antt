@@ -11,6 +11,7 @@ use Rattle.meaning.specs.Table.{Table, arc}
 use Rattle.meaning.proofs.Bool.{not-both}
 use Rattle.meaning.proofs.Below.{none-intro, none-elim, sum-same, sum-zero, sum-mono, sum-part, sum-add}
 use Rattle.meaning.proofs.Sound.{sum-one}
+use Rattle.net.proofs.Whole.{sum-most}
 
 -- Record r is an arc of this sort at place p that passes f.
 abbrev pub on : Table → ℕ → (ℕ → Bool) → ℕ → ℕ → Bool
@@ -22,12 +23,6 @@ load tb sort f p = sum (tb .records) (λ r. cond (on tb sort f p r) (tb .four r)
 
 abbrev pub any : Table → ℕ → (ℕ → Bool) → ℕ → Bool
 any tb sort f p = some (tb .records) (on tb sort f p)
-
--- A sum of numbers that are at most 65,535.
-sum-most : (n : ℕ) (f : ℕ → ℕ) → ((k : ℕ) → k < n → f k ≤ 65535) → sum n f ≤ 65535 * n
-unfolding sum
-sum-most zero f h = omega arith
-sum-most (suc n) f h = omega (arith, sum-most n f (λ k l. h k (omega arith)), h n (omega arith))
 
 module _ (tb : Table) (sort : ℕ) where
   -- Tests that say the same of the arcs have the same sum.
