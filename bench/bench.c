@@ -160,12 +160,50 @@ static double fired_per_cycle(const struct call *call)
     return fired / (double)call->outcome.cycles;
 }
 
+static const size_t words_at[POINTS] = { 0, 1, BENCH_WORDS };
+static uint8_t words[8 * BENCH_WORDS];
+static struct call engine, baseline;
+
+/* The same call of run by both, as it is prepared. */
+static void count_run(uint64_t *by_engine, uint64_t *by_baseline, size_t cycles)
+{
+    *by_engine = instructions_of(run_engine, &engine);
+    *by_baseline = instructions_of(run_baseline, &baseline);
+    compare(&engine, &baseline, cycles);
+}
+
+/* The points of a table: without words, with one and with all, each from a fresh image. */
+static void count_points(const struct bench_table *table, uint64_t by_engine[POINTS],
+                         uint64_t by_baseline[POINTS])
+{
+    for (int i = 0; i < POINTS; i++) {
+        prepare(&engine, table, words, words_at[i]);
+        prepare(&baseline, table, words, words_at[i]);
+        count_run(&by_engine[i], &by_baseline[i], words_at[i]);
+    }
+}
+
+/* The ratios of the other tables, and of one word more from the image that all words left. */
+static void print_others(void)
+{
+    static struct bench_table table;
+    printf("\nOther tables, ratios of one call of run: no word, one, %d, and one more\n", BENCH_WORDS);
+    printf("records     none     one     all    more\n");
+    for (int k = BENCH_TABLES; k < BENCH_TABLES + OTHER_TABLES; k++) {
+        uint64_t by_engine[POINTS + 1], by_baseline[POINTS + 1];
+        make_bench_table(&table, k);
+        count_points(&table, by_engine, by_baseline);
+        engine.words_len = baseline.words_len = 8;
+        count_run(&by_engine[POINTS], &by_baseline[POINTS], 1);
+        printf("%7zu  ", table.length / 8);
+        for (int i = 0; i <= POINTS; i++)
+            printf("%7.2f%s", ratio(by_engine[i], by_baseline[i]), i < POINTS ? " " : "\n");
+    }
+}
+
 int main(int count, char **arguments)
 {
-    static const size_t words_at[POINTS] = { 0, 1, BENCH_WORDS };
     static struct bench_table table[BENCH_TABLES];
-    static struct call engine, baseline;
-    static uint8_t words[8 * BENCH_WORDS];
     uint64_t by_engine[BENCH_TABLES][POINTS], by_baseline[BENCH_TABLES][POINTS];
     uint64_t check_by_engine[BENCH_TABLES], check_by_baseline[BENCH_TABLES];
     double fired[BENCH_TABLES];
@@ -176,13 +214,7 @@ int main(int count, char **arguments)
     make_bench_words(words);
     for (int k = 0; k < BENCH_TABLES; k++) {
         make_bench_table(&table[k], k);
-        for (int i = 0; i < POINTS; i++) {
-            prepare(&engine, &table[k], words, words_at[i]);
-            prepare(&baseline, &table[k], words, words_at[i]);
-            by_engine[k][i] = instructions_of(run_engine, &engine);
-            by_baseline[k][i] = instructions_of(run_baseline, &baseline);
-            compare(&engine, &baseline, words_at[i]);
-        }
+        count_points(&table[k], by_engine[k], by_baseline[k]);
         fired[k] = fired_per_cycle(&baseline);
         check_by_engine[k] = instructions_of(check_engine, &engine);
         check_by_baseline[k] = instructions_of(check_baseline, &baseline);
@@ -223,5 +255,6 @@ int main(int count, char **arguments)
                depth_of(run_baseline, &baseline) - untouched);
         compare(&engine, &baseline, BENCH_WORDS);
     }
+    print_others();
     return 0;
 }

@@ -1,4 +1,4 @@
-/* Three nets that stay busy, made from one pattern.
+/* Nets that stay busy, made from one pattern.
 
    A cell is a group of transitions around two pools of tokens. From the
    first pool take t0, t1 and t2: t0 stands above t1, one condition parts t0
@@ -213,23 +213,25 @@ static void mix(struct bench_table *table, uint64_t seed)
 
 void make_bench_table(struct bench_table *table, int which)
 {
-    static const unsigned cells[BENCH_TABLES] = { 1, 2, 8 };
-    static const unsigned places[BENCH_TABLES] = { 3, 11, 16 };
-    static const size_t records[BENCH_TABLES] = { 25, 150, 1024 };
+    static const struct { unsigned cells, places; size_t records; } size[BENCH_TABLES + OTHER_TABLES] = {
+        { 1, 3, 25 }, { 2, 11, 150 }, { 8, 16, 1024 },
+        { 1, 5, 40 }, { 1, 9, 70 }, { 1, 16, 100 }, { 2, 5, 60 }, { 2, 8, 100 }, { 3, 6, 120 },
+        { 3, 12, 200 }, { 4, 10, 202 }, { 4, 16, 400 }, { 5, 12, 400 }, { 6, 16, 600 }, { 8, 10, 500 }
+    };
+    const unsigned cells = size[which].cells, places = size[which].places;
     table->length = 0;
-    for (unsigned c = 0; c < cells[which]; c++) {
-        unsigned p = c * places[which], t = c * 8;
+    for (unsigned c = 0; c < cells; c++) {
+        unsigned p = c * places, t = c * 8;
         first_pool(table, p, t, 5 * c, 4);
         if (which > 0) {
             second_pool(table, p, t, 5 * c + 2);
-            reserves(table, p, t, places[which] - RESERVE);
+            reserves(table, p, t, places - RESERVE);
         }
         if (c > 0)
             rank_cells(table, t);
     }
     if (which > 0)
-        fill_up(table, records[which], cells[which] * places[which], cells[which] * 8,
-                1 + (uint64_t)which);
+        fill_up(table, size[which].records, cells * places, cells * 8, 1 + (uint64_t)which);
     mix(table, 11 + (uint64_t)which);
 }
 
