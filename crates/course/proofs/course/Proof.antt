@@ -179,7 +179,7 @@ keep-requires c κs =
     let start = begun (counted (filled done .before)) in
     let given = start .pre in
     let ready = given .1 .1 .1 .1 .1 .1 in (
-      (ready .long, fill .2),
+      (ready .long, omega (arith, fill .2)),
       (
         done .cycles .ensures .1 .small,
         (

@@ -66,7 +66,7 @@ load-requires : tie.Need-load-requires Inv-loop μ-loop
 load-requires c κs =
     let pre = c .before .before .before .before .before .before .before .before .before .before .before .before .before .before .before .before .before .pre in
     let empty = pre .1 .1 .1 .1 .0 in
-    ((empty .0, empty .1, pre .0 .within .within), blank-past _ (pre .0 .below) _ (fitting _ _ _ _ (pre .0 .sound) (pre .1 .1 .1 .1 .1 .1)))
+    ((empty .0, empty .1, omega (arith, pre .0 .within .within)), blank-past _ (pre .0 .below) _ (fitting _ _ _ _ (pre .0 .sound) (pre .1 .1 .1 .1 .1 .1)))
 
 hold-requires : tie.Need-hold-requires Inv-loop μ-loop
 hold-requires c κs =
@@ -105,7 +105,7 @@ ceiling-requires : tie.Need-ceiling-requires Inv-loop μ-loop
 ceiling-requires c κs =
     let at = c .before .before .before in
     let inv = at .loop .inv in
-    ((start at .pre .1 .1 .1 .0, inv .5), (inv .6, (inv .2 .small .tokens, (start at .pre .0 .within .within, idle at .tokens))))
+    ((start at .pre .1 .1 .1 .0, inv .5), (inv .6, (inv .2 .small .tokens, (omega (arith, start at .pre .0 .within .within), idle at .tokens))))
 
 step-requires : tie.Need-step-requires Inv-loop μ-loop
 step-requires c κs =
