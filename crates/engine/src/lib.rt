@@ -2,6 +2,7 @@
 ghost use mathlib.Core.Bool.{false};
 ghost use mathlib.Core.Path.{_≡_};
 ghost use lib.ListN.{length, replicate};
+ghost use denote.Ref.{ptr};
 ghost use Rattle.meaning.specs.Defined.{bad-length};
 ghost use Rattle.meaning.specs.Promise.{Checked, Started, Ran, Looked-up};
 ghost use Rattle.engine.specs.Said.{said, Fitting, Ranked};
@@ -225,7 +226,7 @@ fn run_in(
 // The 24 bytes of one cycle, counted from 1, as that part of the report; an empty part for 0 and for a cycle that the report does not hold
 // whole.
 pub fn lookup(report: &[u8], cycle: usize) -> &[u8]
-    ensures { λ r. ⌜ Looked-up (now (report .entry)) cycle (now r) ⌝ }
+    ensures { λ r. ⌜ Looked-up (now (report .entry)) (ptr (report .entry)) cycle (now r) (ptr r) ⌝ }
 {
     if cycle == 0 {
         return &report[..0];

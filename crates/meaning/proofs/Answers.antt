@@ -224,3 +224,11 @@ run-refuses bs img ws report n w p q =
 -- What run's checks decide is the acceptance, or a refusal before any cycle.
 pub run-form : (bs img ws report : List ℕ) → Form (decide (run-checks bs img ws report) (accepted 0))
 run-form bs img ws report = rw (run-list-is bs img ws report) (decide-form (run-list bs img ws report) (run-refusing bs img ws report))
+
+-- And so of check and start.
+pub check-form : (bs : List ℕ) → Form (check bs)
+unfolding check
+check-form bs = decide-form (table-checks bs) (table-refusing bs)
+
+pub start-form : (bs img : List ℕ) → Form (start bs img .answer)
+start-form bs img = rw (start-answer bs img) (decide-form (start-checks bs img) (start-refusing bs img))

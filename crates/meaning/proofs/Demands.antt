@@ -14,12 +14,12 @@ use Rattle.meaning.specs.Answer.{Answer, accepted, refused}
 use Rattle.meaning.specs.Defined.{check}
 use Rattle.meaning.specs.Image.{State, state, image, image-bytes}
 use Rattle.meaning.specs.Cycle.{falling, firable, withdrawn, marked, cycle, fired}
-use Rattle.meaning.specs.Calls.{ran, run, trace, words-of}
-use Rattle.meaning.specs.Says.{Table-says, Run-says}
+use Rattle.meaning.specs.Calls.{start, ran, run, trace, words-of}
+use Rattle.meaning.specs.Says.{Table-says, Start-says, Run-says}
 use Rattle.meaning.specs.Orders.{Meets, Safe}
 use Rattle.meaning.specs.Source.{source-falling, source-run}
 use Rattle.meaning.specs.Steps.{Steps, Stays, Bursts}
-use Rattle.meaning.proofs.Answers.{run-stops, run-goes, run-form}
+use Rattle.meaning.proofs.Answers.{check-refuses, check-accepts, check-form, start-refuses, start-accepts, start-form, run-stops, run-goes, run-form}
 use Rattle.meaning.proofs.Accepted.{accepted-well}
 use Rattle.meaning.proofs.Fired.{fired-meets, fired-only}
 use Rattle.meaning.proofs.Fits.{Fits}
@@ -31,7 +31,7 @@ use Rattle.meaning.proofs.Run.{verdict, words, run-goes-on, run-refused
 -- DEMAND 1: every input has its answer, and a refusal leaves what it must.
 
 -- Answers 1 to 9 are numbers up to 9, and what run refuses before any cycle is at most 12.
-table-low : {bs : List ℕ} {n w : ℕ} → Table-says bs n w → n < 13
+pub table-low : {bs : List ℕ} {n w : ℕ} → Table-says bs n w → n < 10
 table-low (Table-says.length-odd h) = omega arith
 table-low (Table-says.length-long h) = omega arith
 table-low (Table-says.kind l h) = omega arith
@@ -46,13 +46,46 @@ table-low (Table-says.circle h) = omega arith
 table-low (Table-says.conflict i j l m c h) = omega arith
 
 says-low : {bs img ws report : List ℕ} {n w : ℕ} → Run-says bs img ws report n w → n < 13
-says-low (Run-says.of-table s) = table-low s
+says-low (Run-says.of-table s) = omega (arith, table-low s)
 says-low (Run-says.image-length h) = omega arith
 says-low (Run-says.image-place e l h) = omega arith
 says-low (Run-says.image-transition t e l h) = omega arith
 says-low (Run-says.words-odd h) = omega arith
 says-low (Run-says.words-long h) = omega arith
 says-low (Run-says.room h) = omega arith
+
+-- Check answers 0 to 9, start 0 to 9 or 12; neither does a cycle.
+pub check-number : (bs : List ℕ) → (check bs .number ≤ 9) × (check bs .cycles ≡ 0)
+unfolding check
+check-number bs =
+    ⊎-elim (λ e. (omega (arith, ap (λ (a : Answer). a .number) e), ap (λ (a : Answer). a .cycles) e))
+    (λ x. (
+      omega (arith, ap (λ (a : Answer). a .number) (x .3), table-low (check-refuses bs (x .0) (x .1) (x .2) .0 (x .3) .0)),
+      ap (λ (a : Answer). a .cycles) (x .3),
+    ))
+    (check-form bs)
+
+start-low : {bs img : List ℕ} {n w : ℕ} → Start-says bs img n w → (n ≤ 9) ⊎ (n ≡ 12)
+start-low (Start-says.of-table s) = inl (omega (arith, table-low s))
+start-low (Start-says.room h) = inr refl
+
+pub start-number : (bs img : List ℕ)
+    → ((start bs img .answer .number ≤ 9) ⊎ (start bs img .answer .number ≡ 12)) × (start bs img .answer .cycles ≡ 0)
+start-number bs img =
+    ⊎-elim (λ e. (inl (omega (arith, ap (λ (a : Answer). a .number) e)), ap (λ (a : Answer). a .cycles) e))
+    (λ x.
+    let named = ap (λ (a : Answer). a .number) (x .3) in (
+      ⊎-elim (λ l. inl (omega (arith, named))) (λ l. inr (named ∙ l)) (start-low (start-refuses bs img (x .0) (x .1) (x .2) .0 (x .3) .0)),
+      ap (λ (a : Answer). a .cycles) (x .3),
+    ))
+    (start-form bs img)
+
+-- A start that is accepted started an accepted table.
+pub start-checked : (bs img : List ℕ) → start bs img .answer .number ≡ 0 → check bs ≡ accepted 0
+start-checked bs img z =
+    ⊎-elim (λ e. check-accepts bs .1 (λ n w s. start-accepts bs img .0 e n w (Start-says.of-table s)))
+    (λ x. absurd (omega (arith, x .2, ap (λ (a : Answer). a .number) (x .3))))
+    (start-form bs img)
 
 module _ (bs img ws report : List ℕ) where
   -- What run's checks decide is the acceptance or a number from 1 to 12.
@@ -63,8 +96,15 @@ module _ (bs img ws report : List ℕ) where
       (λ x. inr (x .0, x .1, x .2, says-low (run-stops bs img ws report (x .0) (x .1) (x .2) .0 (x .3) .0), x .3))
       (run-form bs img ws report)
 
+  -- The checks before any cycle never give 13.
+  pub verdict-not-13 : verdict bs img ws report .number ≡ 13 → ⊥
+  verdict-not-13 e =
+      ⊎-elim (λ z. absurd (omega (arith, ap (λ (a : Answer). a .number) z)))
+      (λ x. absurd (omega (arith, ap (λ (a : Answer). a .number) (x .4), x .3)))
+      verdict-form
+
   -- Run goes on to its cycles where it answers 0 or 13.
-  went : (run bs img ws report .answer .number ≡ 0) ⊎ (run bs img ws report .answer .number ≡ 13) → verdict bs img ws report ≡ accepted 0
+  pub went : (run bs img ws report .answer .number ≡ 0) ⊎ (run bs img ws report .answer .number ≡ 13) → verdict bs img ws report ≡ accepted 0
   went h = ⊎-elim (λ e. e) (λ x. absurd (clash x h)) verdict-form
     where
       clash : (n : ℕ) × (w : ℕ) × (0 < n) × (n < 13) × (verdict bs img ws report ≡ refused n w)
@@ -76,8 +116,31 @@ module _ (bs img ws report : List ℕ) where
           ⊎-elim (λ z. omega arith) (λ z. omega arith) h
 
   -- A run that goes on answers 0 or 13.
-  ended : verdict bs img ws report .number ≡ 0 → (run bs img ws report .answer .number ≡ 0) ⊎ (run bs img ws report .answer .number ≡ 13)
+  pub ended : verdict bs img ws report .number ≡ 0 → (run bs img ws report .answer .number ≡ 0) ⊎ (run bs img ws report .answer .number ≡ 13)
   ended z = rw (run-goes-on bs img ws report z) (trace-number (table bs) (words ws) img)
+
+  -- Run answers 0 to 13.
+  pub run-number : run bs img ws report .answer .number ≤ 13
+  run-number =
+      ⊎-elim (λ v. ⊎-elim (λ z. omega arith) (λ z. omega arith) (ended (ap (λ (a : Answer). a .number) v)))
+      (λ x.
+      let named : verdict bs img ws report .number ≡ x .0 = ap (λ (a : Answer). a .number) (x .4) in
+      omega (arith, x .2, x .3, ap (λ (a : Answer). a .number) (run-refused-leaves bs img ws report (λ z. omega (arith, x .2)) .2)))
+      verdict-form
+
+  -- A finished cycle tells that the run went on.
+  pub some-cycle-went : (k : ℕ) → 1 ≤ k → k ≤ run bs img ws report .answer .cycles → verdict bs img ws report ≡ accepted 0
+  some-cycle-went k l h =
+      ⊎-elim (λ v. v)
+      (λ x.
+      let named : verdict bs img ws report .number ≡ x .0 = ap (λ (a : Answer). a .number) (x .4) in
+      let none : verdict bs img ws report .cycles ≡ 0 = ap (λ (a : Answer). a .cycles) (x .4) in
+      absurd (omega (arith, x .2, ap (λ (a : Answer). a .cycles) (run-refused-leaves bs img ws report (λ z. omega (arith, x .2)) .2))))
+      verdict-form
+
+  -- A run that goes on does so over an accepted table.
+  pub went-accepted : verdict bs img ws report ≡ accepted 0 → check bs ≡ accepted 0
+  went-accepted v = check-accepts bs .1 (λ n w s. run-goes bs img ws report .0 v n w (Run-says.of-table s))
 
   -- Refused by 1 to 12, every byte is as it was.
   pub refused-leaves : (n w : ℕ) → 0 < n → n < 13 → run bs img ws report .answer ≡ refused n w

@@ -8,6 +8,7 @@ pub mod Image
 pub mod Decide
 pub mod Walk
 pub mod Reflect
+pub mod Bits
 pub mod Shows
 pub mod Same
 pub mod Faults
@@ -15,11 +16,14 @@ pub mod Closure
 pub mod Rows
 pub mod Tables
 pub mod Sound
+pub mod Spelt
 pub mod Wrong
 pub mod Answers
 -- one cycle over an accepted table
 pub mod Well
 pub mod Enabled
+pub mod Falling
+pub mod Rising
 pub mod Accepted
 pub mod Fired
 pub mod Pays
@@ -33,4 +37,7 @@ pub mod Carried
 pub mod Words
 pub mod Outcomes
 pub mod Demand3
+pub mod Turns
 pub mod Demands
+pub mod Kept
+pub mod Finished

@@ -103,7 +103,7 @@ trace-ends tb (w ∷ ws) img =
         inr (suc (s .0), s .1, s .2, s .3, cycle tb img w .written ++ s .4, s .5, Steps.more h (s .6), s .7)
 
 -- A number spelt in n bytes has n bytes; so a cycle's record has 24, and n finished cycles report 24 * n.
-bytes-length : (n x : ℕ) → length (bytes n x) ≡ n
+pub bytes-length : (n x : ℕ) → length (bytes n x) ≡ n
 unfolding bytes
 bytes-length zero x = refl
 bytes-length (suc n) x = ap suc (bytes-length n (x / 256))
@@ -157,6 +157,21 @@ start-refused-leaves bs img h = go (eqb (answer .number) 0) refl h
     go : (b : Bool) → eqb (answer .number) 0 ≡ b → (left b .answer .number ≡ 0 → ⊥) → left b .image ≡ img
     go true e f = absurd (f (eqb-true (answer .number) 0 e))
     go false e f = refl
+
+-- An accepted one leaves the fresh net's image.
+pub start-accepted-leaves : (bs img : List ℕ) → start bs img .answer .number ≡ 0 → start bs img .image ≡ image-bytes (fresh (table bs))
+unfolding start
+start-accepted-leaves bs img h = go (eqb (answer .number) 0) refl h
+  where
+    answer : Answer
+    answer = decide (start-checks bs img) (accepted 0)
+
+    left : Bool → Start
+    left b = cond b (record { answer = answer; image = image-bytes (fresh (table bs)) }) (record { answer = answer; image = img })
+
+    go : (b : Bool) → eqb (answer .number) 0 ≡ b → left b .answer .number ≡ 0 → left b .image ≡ image-bytes (fresh (table bs))
+    go true e f = refl
+    go false e f = absurd (eqb-false (answer .number) 0 e f)
 
 -- What run's checks before any cycle come to.
 abbrev pub verdict : List ℕ → List ℕ → List ℕ → List ℕ → Answer

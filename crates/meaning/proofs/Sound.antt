@@ -2,7 +2,7 @@
 -- in the one record that does.
 use mathlib.Core.Bool.{false, cond, not, _&&_}
 use mathlib.Core.List.{List}
-use mathlib.Core.Path.{_≡_, sym, ap, _∙_}
+use mathlib.Core.Path.{_≡_, refl, sym, ap, _∙_}
 use mathlib.Core.Logic.{_≢_, inl, inr, ⊎-elim}
 use Prim.Native.Nat.{ℕ, zero, suc, _<_}
 use native.Mathlib.Nat.{not-suc-le-zero}
@@ -13,12 +13,12 @@ use Rattle.meaning.specs.Table.{Table, table, is, total, declared, trans
 use Rattle.meaning.specs.Priority.{above}
 use Rattle.meaning.specs.Answer.{accepted}
 use Rattle.meaning.specs.Defined.{same, twice, unknown, circle, conflict, settled, unsettled, clashes, table-checks, check}
-use Rattle.meaning.specs.Says.{Same, Timed}
+use Rattle.meaning.specs.Says.{Same, Transition, Timed}
 use Rattle.meaning.proofs.Bool.{not-both, and-left, and-right, and-true}
 use Rattle.meaning.proofs.Below.{last, sum-zero, some-intro, none-elim}
-use Rattle.meaning.proofs.Reflect.{Decides, eq-decides, and-decides, not-true-false, refuted, refutes}
-use Rattle.meaning.proofs.Shows.{Shows}
-use Rattle.meaning.proofs.Same.{same-decides}
+use Rattle.meaning.proofs.Reflect.{Decides, decided, eq-decides, and-decides, not-true-false, refuted, refutes}
+use Rattle.meaning.proofs.Shows.{Shows, up-to-2}
+use Rattle.meaning.proofs.Same.{same-decides, of-kind, shown-transition}
 use Rattle.meaning.proofs.Faults.{faultless}
 use Rattle.meaning.proofs.Rows.{conflict-decides, transition-decides}
 use Rattle.meaning.proofs.Decide.{AllClean, accepted-clean}
@@ -138,3 +138,23 @@ module _ (tb : Table) (sound : Sound-table tb) where
     transition-column t (tb .four) r (h .0) (h .1) (h .2),
     transition-column t (tb .six) r (h .0) (h .1) (h .2),
   )
+
+-- A transition is timed by no record, or by one of sort 1, or by one of sort 2.
+pub data Sort-of (tb : Table) (t : ℕ) : Type 0 where
+  none : timing tb t ≡ 0 → Sort-of tb t
+  between : (r : ℕ) → Timed tb t 1 r → Sort-of tb t
+  from : (r : ℕ) → Timed tb t 2 r → Sort-of tb t
+
+pub sort-of : (tb : Table) → Sound-table tb → (t : ℕ) → Sort-of tb t
+sort-of tb sound t =
+    ⊎-elim declared-by (λ (n : ¬ Transition tb t). Sort-of.none (declared-none tb 2 t (tb .sort) (λ s l e o. n (s, l, e, o))))
+    (decided (transition-decides tb t))
+  where
+    declared-by : Transition tb t → Sort-of tb t
+    declared-by w =
+        up-to-2 (λ s. tb .sort (w .0) ≡ s → Sort-of tb t) (λ q. Sort-of.none (timed-is tb sound t 0 (w .0) (w .1, w .2, w .3, q) .0))
+        (λ q. Sort-of.between (w .0) (w .1, w .2, w .3, q))
+        (λ q. Sort-of.from (w .0) (w .1, w .2, w .3, q))
+        (tb .sort (w .0))
+        (shown-transition (of-kind tb (w .0) 2 (sound .shown (w .0) (w .1)) (w .2)) .2)
+        refl

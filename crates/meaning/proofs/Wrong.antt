@@ -1,20 +1,18 @@
 -- Answer 10: the tests of an image's records decide whether they fit, since a sound table has one record of each transition to read a and b from.
 use mathlib.Core.Bool.{Bool, false, not, _&&_, _||_}
-use mathlib.Core.Path.{_≡_, refl, ap}
-use mathlib.Core.Logic.{⊎-elim}
+use mathlib.Core.Path.{_≡_, ap}
+use mathlib.Core.Logic.{_↔_, ⊎-elim}
 use Prim.Native.Nat.{ℕ, _+_, _-_, _≤_, _<_}
 use native.Mathlib.Omega.{arith}
 use lib.Dec.{ltb, eqb}
 use borrow.Author.Tests.{lt-ltb, le-ltb, ltb-false, eqb-true, eq-eqb, not-false}
 use Rattle.meaning.specs.Table.{Table, place, timing, a-of, b-of}
 use Rattle.meaning.specs.Image.{Image, wrong-place, most, most-order, wrong-transition, wrong}
-use Rattle.meaning.specs.Says.{Place, Transition, Timed, Place-fits, Transition-fits}
+use Rattle.meaning.specs.Says.{Place, Timed, Place-fits, Transition-fits}
 use Rattle.meaning.proofs.Bool.{or-false, or-false-left, or-false-right}
 use Rattle.meaning.proofs.Reflect.{Decides, fails, decided, refuted, refutes, not-decides, and-decides, eq-decides}
-use Rattle.meaning.proofs.Shows.{up-to-2}
-use Rattle.meaning.proofs.Same.{of-kind, shown-transition}
-use Rattle.meaning.proofs.Rows.{place-decides, transition-decides}
-use Rattle.meaning.proofs.Sound.{Sound-table, declared-none, timed-is}
+use Rattle.meaning.proofs.Rows.{place-decides}
+use Rattle.meaning.proofs.Sound.{Sound-table, timed-is, Sort-of, sort-of}
 
 -- A byte that is not tested wrong is 0.
 zero-byte : (x : ℕ) → not (eqb x 0) ≡ false → x ≡ 0
@@ -24,9 +22,9 @@ byte-zero : (x : ℕ) → x ≡ 0 → not (eqb x 0) ≡ false
 byte-zero x e = ap not (eq-eqb x 0 e)
 
 -- A place's record.
-pub wrong-place-decides : (tb : Table) (img : Image) (p : ℕ) → Decides (wrong-place tb img p) (¬ Place-fits tb img p)
+pub place-fits-is : (tb : Table) (img : Image) (p : ℕ) → (wrong-place tb img p ≡ false) ↔ Place-fits tb img p
 unfolding wrong-place
-wrong-place-decides tb img p = fails (wrong-place tb img p) to from
+place-fits-is tb img p = (to, from)
   where
     bytes-wrong : Bool
     bytes-wrong = not (eqb (img .third p) 0) || not (eqb (img .fourth p) 0)
@@ -51,6 +49,9 @@ wrong-place-decides tb img p = fails (wrong-place tb img p) to from
         or-false (or-false (byte-zero (img .third p) (f .third)) (byte-zero (img .fourth p) (f .fourth)))
         (refuted held (λ w. w .0 (f .undeclared (w .1))))
 
+pub wrong-place-decides : (tb : Table) (img : Image) (p : ℕ) → Decides (wrong-place tb img p) (¬ Place-fits tb img p)
+wrong-place-decides tb img p = fails (wrong-place tb img p) (place-fits-is tb img p .0) (place-fits-is tb img p .1)
+
 -- The highest counter and reset order, by the transition's sort.
 most-untimed : (tb : Table) (t : ℕ) → timing tb t ≡ 0 → (most tb t ≡ 0) × (most-order tb t ≡ 0)
 unfolding most most-order
@@ -64,70 +65,49 @@ most-from : (tb : Table) (t : ℕ) → timing tb t ≡ 2 → (most tb t ≡ a-of
 unfolding most most-order
 most-from tb t e = (rw e, rw e)
 
--- A transition is timed by no record, or by one of sort 1, or by one of sort 2.
-data Sorts (tb : Table) (t : ℕ) : Type 0 where
-  none : timing tb t ≡ 0 → Sorts tb t
-  between : (r : ℕ) → Timed tb t 1 r → Sorts tb t
-  from : (r : ℕ) → Timed tb t 2 r → Sorts tb t
-
 -- The counter, the reset order and the last byte are within what the sort allows.
 abbrev Within : Table → Image → ℕ → Type 0
 Within tb img t = (img .number (128 + t) ≤ most tb t) × (img .third (128 + t) ≤ most-order tb t) × (img .fourth (128 + t) ≡ 0)
 
 module _ (tb : Table) (sound : Sound-table tb) (img : Image) (t : ℕ) where
-  -- A declared transition has one of the three sorts.
-  sorts : Sorts tb t
-  sorts =
-      ⊎-elim declared-by (λ (n : ¬ Transition tb t). Sorts.none (declared-none tb 2 t (tb .sort) (λ s l e o. n (s, l, e, o))))
-      (decided (transition-decides tb t))
-    where
-      declared-by : Transition tb t → Sorts tb t
-      declared-by w =
-          up-to-2 (λ s. tb .sort (w .0) ≡ s → Sorts tb t) (λ q. Sorts.none (timed-is tb sound t 0 (w .0) (w .1, w .2, w .3, q) .0))
-          (λ q. Sorts.between (w .0) (w .1, w .2, w .3, q))
-          (λ q. Sorts.from (w .0) (w .1, w .2, w .3, q))
-          (tb .sort (w .0))
-          (shown-transition (of-kind tb (w .0) 2 (sound .shown (w .0) (w .1)) (w .2)) .2)
-          refl
-
   -- What is within fits.
   within-fits : Within tb img t → Transition-fits tb img t
   within-fits w =
       record {
-        order = order sorts;
+        order = order (sort-of tb sound t);
         fourth = w .2;
-        untimed = λ no-between no-from. untimed sorts no-between no-from;
+        untimed = λ no-between no-from. untimed (sort-of tb sound t) no-between no-from;
         between = λ r h. omega (arith, w, timed-is tb sound t 1 r h, most-between tb t (timed-is tb sound t 1 r h .0));
         from = λ r h. omega (arith, w, timed-is tb sound t 2 r h, most-from tb t (timed-is tb sound t 2 r h .0));
       }
     where
-      order : Sorts tb t → img .third (128 + t) ≤ 1
-      order (Sorts.none e) = omega (arith, w, most-untimed tb t e)
-      order (Sorts.between r h) = omega (arith, w, most-between tb t (timed-is tb sound t 1 r h .0))
-      order (Sorts.from r h) = omega (arith, w, most-from tb t (timed-is tb sound t 2 r h .0))
+      order : Sort-of tb t → img .third (128 + t) ≤ 1
+      order (Sort-of.none e) = omega (arith, w, most-untimed tb t e)
+      order (Sort-of.between r h) = omega (arith, w, most-between tb t (timed-is tb sound t 1 r h .0))
+      order (Sort-of.from r h) = omega (arith, w, most-from tb t (timed-is tb sound t 2 r h .0))
 
-      untimed : Sorts tb t → ((r : ℕ) → ¬ Timed tb t 1 r) → ((r : ℕ) → ¬ Timed tb t 2 r)
+      untimed : Sort-of tb t → ((r : ℕ) → ¬ Timed tb t 1 r) → ((r : ℕ) → ¬ Timed tb t 2 r)
           → (img .number (128 + t) ≡ 0) × (img .third (128 + t) ≡ 0)
-      untimed (Sorts.none e) no-between no-from = omega (arith, w, most-untimed tb t e)
-      untimed (Sorts.between r h) no-between no-from = absurd (no-between r h)
-      untimed (Sorts.from r h) no-between no-from = absurd (no-from r h)
+      untimed (Sort-of.none e) no-between no-from = omega (arith, w, most-untimed tb t e)
+      untimed (Sort-of.between r h) no-between no-from = absurd (no-between r h)
+      untimed (Sort-of.from r h) no-between no-from = absurd (no-from r h)
 
   -- What fits is within.
   fits-within : Transition-fits tb img t → Within tb img t
-  fits-within f = go sorts
+  fits-within f = go (sort-of tb sound t)
     where
-      go : Sorts tb t → Within tb img t
-      go (Sorts.none e) =
+      go : Sort-of tb t → Within tb img t
+      go (Sort-of.none e) =
           let z = f .untimed (λ r h. omega (arith, e, timed-is tb sound t 1 r h .0)) (λ r h. omega (arith, e, timed-is tb sound t 2 r h .0)) in
           omega (arith, f .fourth, most-untimed tb t e)
-      go (Sorts.between r h) =
+      go (Sort-of.between r h) =
           omega (arith, f .fourth, f .order, f .between r h, timed-is tb sound t 1 r h, most-between tb t (timed-is tb sound t 1 r h .0))
-      go (Sorts.from r h) = omega (arith, f .fourth, f .order, f .from r h, timed-is tb sound t 2 r h, most-from tb t (timed-is tb sound t 2 r h .0))
+      go (Sort-of.from r h) = omega (arith, f .fourth, f .order, f .from r h, timed-is tb sound t 2 r h, most-from tb t (timed-is tb sound t 2 r h .0))
 
   -- A transition's record.
-  pub wrong-transition-decides : Decides (wrong-transition tb img t) (¬ Transition-fits tb img t)
+  pub transition-fits-is : (wrong-transition tb img t ≡ false) ↔ Transition-fits tb img t
   unfolding wrong-transition
-  wrong-transition-decides = fails (wrong-transition tb img t) to from
+  transition-fits-is = (to, from)
     where
       low : Bool
       low = ltb (most tb t) (img .number (128 + t))
@@ -153,6 +133,9 @@ module _ (tb : Table) (sound : Sound-table tb) (img : Image) (t : ℕ) where
           or-false
           (or-false (le-ltb (most tb t) (img .number (128 + t)) (w .0)) (le-ltb (most-order tb t) (img .third (128 + t)) (w .1)))
           (byte-zero (img .fourth (128 + t)) (w .2))
+
+  pub wrong-transition-decides : Decides (wrong-transition tb img t) (¬ Transition-fits tb img t)
+  wrong-transition-decides = fails (wrong-transition tb img t) (transition-fits-is .0) (transition-fits-is .1)
 
 -- The records of an image, places and then transitions.
 pub wrong-at-place : (tb : Table) (img : Image) (p : ℕ) → p < 128 → wrong tb img p ≡ wrong-place tb img p

@@ -1,4 +1,5 @@
--- Document 01, "Answer numbers and their order": what an answer holds, and how an ordered list of checks gives one.
+-- Document 01, "Answer numbers and their order": what an answer holds, and how an ordered list of checks gives
+-- one.
 use mathlib.Core.Bool.{Bool, cond}
 use mathlib.Core.List.{List, [], _∷_}
 use Prim.Native.Nat.{ℕ}
@@ -28,7 +29,8 @@ pub record Check : Type 0 where
 abbrev pub check-of : ℕ → (ℕ → Bool) → (ℕ → Answer) → Check
 check-of n p f = record { below = n; bad = p; answer = f }
 
--- The checks are made in their order, and the first that finds something decides; else the answer is the last argument.
+-- The checks are made in their order, and the first that finds something decides; else the answer is the last
+-- argument.
 unfoldable pub decide : List Check → Answer → Answer
 decide [] ok = ok
 decide (c ∷ cs) ok =

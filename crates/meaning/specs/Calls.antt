@@ -1,4 +1,5 @@
--- Document 01, "What the station hands over" and "Answer numbers and their order": what check, start, run and lookup leave behind.
+-- Document 01, "What the station hands over" and "Answer numbers and their order": what check, start, run and
+-- lookup leave behind.
 use mathlib.Core.Bool.{cond, not, _&&_, _||_}
 use mathlib.Core.List.{List, [], _∷_, _++_}
 use Prim.Native.Nat.{ℕ, zero, suc, _*_, _-_, _/_, _%_}
@@ -49,7 +50,8 @@ word-checks ws report =
 unfoldable pub run-checks : List ℕ → List ℕ → List ℕ → List ℕ → List Check
 run-checks bs img ws report = table-checks bs ++ state-checks (table bs) img ++ word-checks ws report
 
--- What a list of words comes to: number and `where`, finished cycles, the image then, and the bytes that the finished cycles report.
+-- What a list of words comes to: number and `where`, finished cycles, the image then, and the bytes that the
+-- finished cycles report.
 pub record Trace : Type 0 where
   pub number : ℕ
   pub at : ℕ
@@ -102,6 +104,11 @@ run bs img ws report =
 
 -- LOOKUP
 
--- The 24 bytes of cycle n, counted from 1, as a part of the report; empty for 0 and for a cycle that the report does not hold whole.
+-- The 24 bytes of cycle n, counted from 1, as a part of the report; empty for 0 and for a cycle that the report
+-- does not hold whole.
 unfoldable pub lookup : List ℕ → ℕ → List ℕ
 lookup report n = cond (leb 1 n && leb n (length report / 24)) (take 24 (drop (24 * (n - 1)) report)) []
+
+-- Where that part begins, in bytes from the report's beginning; an empty part stands at the beginning.
+unfoldable pub lookup-from : List ℕ → ℕ → ℕ
+lookup-from report n = cond (leb 1 n && leb n (length report / 24)) (24 * (n - 1)) 0

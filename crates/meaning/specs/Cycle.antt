@@ -1,4 +1,5 @@
--- Document 01, "One cycle": a falling edge, then a rising edge (source document 001, definitions 4 to 7; rules 1 to 9 are those of definition 7).
+-- Document 01, "One cycle": a falling edge, then a rising edge (source document 001, definitions 4 to 7; rules
+-- 1 to 9 are those of definition 7).
 use mathlib.Core.Bool.{Bool, cond, not, _&&_, _||_, Bool·beq}
 use mathlib.Core.List.{List, [], _++_}
 use Prim.Native.Nat.{ℕ, zero, suc, _+_, _-_}
@@ -9,8 +10,8 @@ use Rattle.meaning.specs.Table.{Table, total, is, basic, test, inhibitor
 use Rattle.meaning.specs.Priority.{above}
 use Rattle.meaning.specs.Image.{State, state, image}
 
--- Record r is an arc that stops transition t at the marking m: a basic or test arc that finds less than its weight, or an inhibitor arc
--- that does not find strictly less.
+-- Record r is an arc that stops transition t at the marking m: a basic or test arc that finds less than its
+-- weight, or an inhibitor arc that does not find strictly less.
 unfoldable pub stops : Table → (ℕ → ℕ) → ℕ → ℕ → Bool
 stops tb m t r =
     let found = m (tb .one r) in
@@ -28,12 +29,13 @@ enabled tb m t = not (some (tb .records) (stops tb m t))
 unfoldable pub active : Table → (ℕ → ℕ) → ℕ → Bool
 active tb m k = some (tb .records) (λ r. is tb 6 r && eqb (tb .two r) k && ltb 0 (m (tb .one r)))
 
--- The counter of an enabled transition without a reset order: sort 1 rises by one if at most b (rules 4 and 5); sort 2 rises by one if
--- below a, where the source counts on for ever: this stop is the page's own.
+-- The counter of an enabled transition without a reset order: sort 1 rises by one if at most b (rules 4 and 5);
+-- sort 2 rises by one if below a, where the source counts on for ever: this stop is the page's own.
 unfoldable pub risen : Table → ℕ → ℕ → ℕ
 risen tb t c = cond (cond (eqb (timing tb t) 1) (leb c (b-of tb t)) (ltb c (a-of tb t))) (suc c) c
 
--- The counter after the falling edge. Timed: 0 if not enabled (rule 6), 1 if enabled with a reset order (rule 3), else it rises or stays.
+-- The counter after the falling edge. Timed: 0 if not enabled (rule 6), 1 if enabled with a reset order (rule
+-- 3), else it rises or stays.
 unfoldable pub counted : Table → State → ℕ → ℕ
 counted tb s t =
     let on = cond (s .order t) 1 (risen tb t (s .counter t)) in
@@ -84,7 +86,8 @@ rule tb m able F t =
     let enough = enabled tb (residual tb m F t) t in
     able t && enough
 
--- The rule applied k times, first to the empty set. Each time, the next rank of the priority comes right; 64 transitions have at most 64.
+-- The rule applied k times, first to the empty set. Each time, the next rank of the priority comes right; 64
+-- transitions have at most 64.
 unfoldable pub rounds : Table → (ℕ → ℕ) → (ℕ → Bool) → ℕ → List ℕ
 rounds tb m able zero = []
 rounds tb m able (suc k) =
@@ -105,8 +108,8 @@ marked tb m F p = m p - withdrawn tb F p + added tb F p
 unfoldable pub executed : Table → (ℕ → Bool) → ℕ → Bool
 executed tb F k = some (tb .records) (λ r. is tb 7 r && eqb (tb .two r) k && F (tb .one r))
 
--- Some basic or test arc to t comes from a place from which F withdrew something and which then, before anything is put back, holds less
--- than that arc's weight.
+-- Some basic or test arc to t comes from a place from which F withdrew something and which then, before
+-- anything is put back, holds less than that arc's weight.
 unfoldable pub starved : Table → (ℕ → ℕ) → (ℕ → Bool) → ℕ → Bool
 starved tb m F t =
     some (tb .records)

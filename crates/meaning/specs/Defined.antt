@@ -1,4 +1,5 @@
--- Document 01, "When a table is well defined" and answers 1 to 9, in the page's order (source document 001, definitions 10 to 14).
+-- Document 01, "When a table is well defined" and answers 1 to 9, in the page's order (source document 001,
+-- definitions 10 to 14).
 use mathlib.Core.Bool.{Bool, false, cond, not, _&&_, _||_, Bool·beq}
 use mathlib.Core.List.{List, [], _∷_}
 use Prim.Native.Nat.{ℕ, _+_, _*_, _-_, _%_}
@@ -17,7 +18,8 @@ bad-length bs = not (eqb (length bs % 8) 0) || ltb 8192 (length bs)
 unfoldable pub bad-kind : Table → ℕ → Bool
 bad-kind tb r = eqb (tb .kind r) 0 || ltb 7 (tb .kind r) || ltb (kind-row tb r .sort) (tb .sort r)
 
--- A transition's interval is as its sort asks. Sort 0: a and b are 0. Sort 1: 1 ≤ a ≤ b ≤ 65,534. Sort 2: a is at least 1 and b is 0.
+-- A transition's interval is as its sort asks. Sort 0: a and b are 0. Sort 1: 1 ≤ a ≤ b ≤ 65,534. Sort 2: a is
+-- at least 1 and b is 0.
 unfoldable pub interval : Table → ℕ → Bool
 interval tb r =
     getD
@@ -28,7 +30,8 @@ interval tb r =
     (tb .sort r)
     false
 
--- 3 field: a number out of its kind's range or an unused byte not 0, a weight of 0, or an interval that is not as its sort asks.
+-- 3 field: a number out of its kind's range or an unused byte not 0, a weight of 0, or an interval that is not
+-- as its sort asks.
 unfoldable pub bad-field : Table → ℕ → Bool
 bad-field tb r =
     ltb (kind-row tb r .one) (tb .one r)
@@ -38,8 +41,8 @@ bad-field tb r =
     || (is tb 3 r && eqb (tb .four r) 0)
     || (is tb 2 r && not (interval tb r))
 
--- Records s and r say the same thing: one kind and the same bytes 1 and 2 (places and transitions have byte 2 at 0), whatever their
--- sorts; but of arcs an input arc (sorts 0 to 2) and a post arc stand beside each other.
+-- Records s and r say the same thing: one kind and the same bytes 1 and 2 (places and transitions have byte 2
+-- at 0), whatever their sorts; but of arcs an input arc (sorts 0 to 2) and a post arc stand beside each other.
 unfoldable pub same : Table → ℕ → ℕ → Bool
 same tb r s =
     eqb (tb .kind s) (tb .kind r)
@@ -61,7 +64,8 @@ fault tb r =
 unfoldable pub faulty : Table → ℕ → Bool
 faulty tb r = not (eqb (fault tb r) 0)
 
--- Byte 1 of kinds 3 and 6 names a place, of kinds 4, 5 and 7 a transition; byte 2 of kinds 3 and 5 names a transition.
+-- Byte 1 of kinds 3 and 6 names a place, of kinds 4, 5 and 7 a transition; byte 2 of kinds 3 and 5 names a
+-- transition.
 unfoldable pub names-place : Table → ℕ → Bool
 names-place tb r = is tb 3 r || is tb 6 r
 
@@ -139,13 +143,16 @@ unsettled tb i j =
     let clash = conflict tb i j && loose in
     ltb i j && clash
 
--- 9 conflict: transition i stands in an unsettled pair i < j. The least pair has the least such i and then the least such j.
+-- 9 conflict: transition i stands in an unsettled pair i < j. The least pair has the least such i and then the
+-- least such j. That i is declared is asked first only to compute less: where 5 found nothing, both transitions
+-- of a pair in conflict are declared.
 unfoldable pub clashes : Table → ℕ → Bool
 clashes tb i =
     let with-some = some 64 (unsettled tb i) in
     transition tb i && with-some
 
--- Answers 1 to 9, in their order: the length; the records in order, each for 2, 3, 4; then 5 in record order; then 6 to 9.
+-- Answers 1 to 9, in their order: the length; the records in order, each for 2, 3, 4; then 5 in record order;
+-- then 6 to 9.
 unfoldable pub table-checks : List ℕ → List Check
 table-checks bs =
     let tb = table bs in

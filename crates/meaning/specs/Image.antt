@@ -1,4 +1,5 @@
--- Document 01, "State image": 192 records of four bytes, the places and then the transitions, and when an image fits a table (answer 10).
+-- Document 01, "State image": 192 records of four bytes, the places and then the transitions, and when an image
+-- fits a table (answer 10).
 use mathlib.Core.Bool.{Bool, cond, not, _&&_, _||_, false}
 use mathlib.Core.List.{List, [], _∷_, _++_}
 use Prim.Native.Nat.{ℕ, zero, suc, _+_, _*_, _-_}
@@ -21,7 +22,8 @@ image bs =
     let at : ℕ → ℕ → ℕ = λ k i. getD (getD pieces k []) i 0 in
     record { number = λ k. at k 0 + 256 * at k 1; third = λ k. at k 2; fourth = λ k. at k 3 }
 
--- A state: each place's tokens, each transition's counter and whether it has a reset order (source document 001, definition 2).
+-- A state: each place's tokens, each transition's counter and whether it has a reset order (source document
+-- 001, definition 2).
 pub record State : Type 0 where
   pub tokens : ℕ → ℕ
   pub counter : ℕ → ℕ

@@ -9,8 +9,10 @@ pub mod Image
 pub mod Cycle
 pub mod Calls
 pub mod Says
+pub mod Rules
 pub mod Orders
 pub mod Steps
+pub mod Finished
 pub mod Promise
 pub mod Source
 pub mod Nets

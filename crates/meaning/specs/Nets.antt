@@ -86,18 +86,22 @@ net9 = place 0 65535 ++ untimed 0 ++ post 0 0
 unfoldable pub net10 : ℕ → List ℕ
 net10 n = place 0 n ++ place 1 0 ++ untimed 0 ++ inhibitor 0 0 ++ post 1 0
 
--- A case: a table and words; the end that is expected (number, where, cycles) and the fired set of each finished cycle; and, of one
--- transition, the counter after each of the first cycles.
+-- A case: a table and words; the end that is expected (number, where, cycles) and the fired set of each
+-- finished cycle; active actions and executed functions of the first cycles; and, of one transition, the
+-- counter after each of the first cycles.
 pub record Case : Type 0 where
   pub table : List ℕ
   pub words : List ℕ
   pub end : List ℕ
   pub fired : List ℕ
+  pub actions : List ℕ
+  pub functions : List ℕ
   pub counter : ℕ
   pub counts : List ℕ
 
 abbrev pub case : List ℕ → List ℕ → List ℕ → List ℕ → Case
-case tb ws e fs = record { table = tb; words = ws; end = e; fired = fs; counter = 0; counts = [] }
+case tb ws e fs =
+    record { table = tb; words = ws; end = e; fired = fs; actions = []; functions = []; counter = 0; counts = [] }
 
 -- A case that is refused by start.
 abbrev pub refusal : List ℕ → ℕ → ℕ → Case
@@ -107,11 +111,26 @@ refusal tb n w = case tb [] (n ∷ w ∷ 0 ∷ []) []
 abbrev pub fires : List ℕ → List ℕ → List ℕ → Case
 fires tb ws fs = case tb ws (0 ∷ 0 ∷ length ws ∷ []) fs
 
--- The nets marked P. Of net 1's long tables the page leaves the bytes open: they are all 0, so that 8,192 bytes pass check 1 and are
--- refused by check 2 at record 0.
+-- Net N as the page prints it, words 0, 0, 1: the columns of its three lines, and its last line.
+abbrev printed : Case
+printed =
+    record {
+      table = N;
+      words = 0 ∷ 0 ∷ 1 ∷ [];
+      end = 0 ∷ 0 ∷ 3 ∷ [];
+      fired = 1 ∷ 0 ∷ 4 ∷ [];
+      actions = 0 ∷ 1 ∷ 1 ∷ [];
+      functions = 0 ∷ 0 ∷ 1 ∷ [];
+      counter = 0;
+      counts = [];
+    }
+
+-- The nets marked P, with N as printed first. Of net 1's long tables the page leaves the bytes open: they are
+-- all 0, so that 8,192 bytes pass check 1 and are refused by check 2 at record 0.
 unfoldable pub nets-1-to-5 : List Case
 nets-1-to-5 =
-    refusal [] 6 0
+    printed
+    ∷ refusal [] 6 0
     ∷ refusal (replicate 7 0) 1 0
     ∷ refusal (replicate 8200 0) 1 0
     ∷ refusal (replicate 8192 0) 2 0
@@ -122,6 +141,8 @@ nets-1-to-5 =
       words = 0 ∷ 0 ∷ 0 ∷ 0 ∷ 0 ∷ 0 ∷ 1 ∷ [];
       end = 0 ∷ 0 ∷ 7 ∷ [];
       fired = 1 ∷ 0 ∷ 0 ∷ 0 ∷ 0 ∷ 0 ∷ 0 ∷ [];
+      actions = [];
+      functions = [];
       counter = 2;
       counts = 0 ∷ 1 ∷ 2 ∷ 3 ∷ 4 ∷ 4 ∷ [];
     }
@@ -165,7 +186,8 @@ put-back = place 0 1 ++ untimed 0 ++ untimed 1 ++ basic 0 0 ++ post 0 0 ++ basic
 unfoldable pub two-full : List ℕ
 two-full = place 0 65535 ++ place 1 65535 ++ untimed 0 ++ post 0 0 ++ post 1 0
 
--- Cases beside the page's: nets 11 and 12, a second record of a place with a byte that must be 0, and the two nets above.
+-- Cases beside the page's: nets 11 and 12, a second record of a place with a byte that must be 0, and the two
+-- nets above.
 unfoldable pub beside : List Case
 beside =
     fires net11 (0 ∷ []) (5 ∷ [])
@@ -190,10 +212,10 @@ unfoldable pub word-bytes : List ℕ → List ℕ
 word-bytes [] = []
 word-bytes (w ∷ ws) = bytes 8 w ++ word-bytes ws
 
--- The fired sets of a report's first n cycles.
-unfoldable pub fired-sets : ℕ → List ℕ → List ℕ
-fired-sets zero rep = []
-fired-sets (suc n) rep = number (take 8 rep) ∷ fired-sets n (drop 24 rep)
+-- Of each of a report's first n cycles the set from byte i of its record on: 0 fired, 8 actions, 16 functions.
+unfoldable pub sets-at : ℕ → ℕ → List ℕ → List ℕ
+sets-at i zero rep = []
+sets-at i (suc n) rep = number (take 8 (drop i rep)) ∷ sets-at i n (drop 24 rep)
 
 -- The counter of transition t after each cycle.
 unfoldable pub counts-of : Table → ℕ → List ℕ → List ℕ → List ℕ
@@ -202,8 +224,8 @@ counts-of tb t (w ∷ ws) img =
     let after = cycle tb img w .after in
     after .counter t ∷ counts-of tb t ws (image-bytes after)
 
--- A case passes: as the program does it, start on an image of zeros and, where that accepts, run on the words with a report of zeros. The
--- last answer is the expected end, and the report holds the expected fired sets.
+-- A case passes: as the program does it, start on an image of zeros and, where that accepts, run on the words
+-- with a report of zeros. The last answer is the expected end, and the report holds the expected sets.
 unfoldable pub passes : Case → Bool
 passes c =
     let ws = word-bytes (c .words) in
@@ -211,7 +233,9 @@ passes c =
     let ended = run (c .table) (begun .image) ws (replicate (3 * length ws) 0) in
     let answer = cond (eqb (begun .answer .number) 0) (ended .answer) (begun .answer) in
     alike (answer .number ∷ answer .at ∷ answer .cycles ∷ []) (c .end)
-    && alike (fired-sets (answer .cycles) (ended .report)) (c .fired)
+    && alike (sets-at 0 (answer .cycles) (ended .report)) (c .fired)
+    && alike (sets-at 8 (length (c .actions)) (ended .report)) (c .actions)
+    && alike (sets-at 16 (length (c .functions)) (ended .report)) (c .functions)
     && alike (counts-of (table (c .table)) (c .counter) (take (length (c .counts)) (c .words)) (begun .image)) (c .counts)
 
 -- Every case of a list passes.

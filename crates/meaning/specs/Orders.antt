@@ -1,4 +1,5 @@
--- Document 01, "One cycle" and demand 3, as statements: the sets that meet definition 6, and firing the members of a set one by one.
+-- Document 01, "One cycle" and demand 3, as statements: the sets that meet definition 6, and firing the members
+-- of a set one by one.
 use mathlib.Core.Bool.{Bool}
 use mathlib.Core.List.{List, [], _∷_}
 use mathlib.Core.Path.{_≡_}
@@ -9,8 +10,8 @@ use Rattle.meaning.specs.Table.{Table}
 use Rattle.meaning.specs.Image.{State, state, image}
 use Rattle.meaning.specs.Cycle.{rule, firable, withdrawn, added, marked, cycle}
 
--- The set F meets definition 6 at a state after its falling edge: exactly those are in it that are firable and enabled by M less the basic
--- weights of the members of F above them.
+-- The set F meets definition 6 at a state after its falling edge: exactly those are in it that are firable and
+-- enabled by M less the basic weights of the members of F above them.
 abbrev pub Meets : Table → State → ℕ → (ℕ → Bool) → Type 0
 Meets tb s word F = (t : ℕ) → F t ≡ rule tb (s .tokens) (firable tb s word) F t
 
@@ -21,8 +22,8 @@ takes tb t p = withdrawn tb (λ u. eqb t u) p
 abbrev pub puts : Table → ℕ → ℕ → ℕ
 puts tb t p = added tb (λ u. eqb t u) p
 
--- Fire the transitions of a list one by one, each taking and then putting, with no ceiling on tokens and without asking test or inhibitor
--- arcs: each finds the tokens that it takes, and the marking m becomes m′.
+-- Fire the transitions of a list one by one, each taking and then putting, with no ceiling on tokens and
+-- without asking test or inhibitor arcs: each finds the tokens that it takes, and the marking m becomes m′.
 pub data One-by-one (tb : Table) : (ℕ → ℕ) → List ℕ → (ℕ → ℕ) → Type 0 where
   done : {m : ℕ → ℕ} → One-by-one tb m [] m
   fire : {m m′ : ℕ → ℕ} {t : ℕ} {ts : List ℕ} → ((p : ℕ) → takes tb t p ≤ m p)

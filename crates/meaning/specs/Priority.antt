@@ -1,10 +1,12 @@
--- Document 01, "When a table is well defined": the priority relation, the transitive closure of the kind 5 records.
+-- Document 01, "When a table is well defined": the priority relation, the transitive closure of the kind 5
+-- records.
 use mathlib.Core.Bool.{Bool, false, cond, _&&_, _||_}
 use Prim.Native.Nat.{ℕ, zero, suc}
 use lib.Dec.{eqb}
 use Rattle.meaning.specs.Table.{Table, is}
 
--- Transition u stands above t by the pairs of the first n records. One more pair, x over y, brings x and all above x over y and all below y.
+-- Transition u stands above t by the pairs of the first n records. One more pair, x over y, brings x and all
+-- above x over y and all below y.
 unfoldable pub through : Table → ℕ → ℕ → ℕ → Bool
 through tb zero u t = false
 through tb (suc r) u t =

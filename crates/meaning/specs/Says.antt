@@ -1,5 +1,6 @@
--- Document 01's answer table once more, row by row, in words of logic and apart from the definitions that compute: what each number says,
--- and which of two answers comes earlier. The laws of proofs/Answers.antt hold check, start and run to it.
+-- Document 01's answer table once more, row by row, in words of logic and apart from the definitions that
+-- compute: what each number says, and which of two answers comes earlier. The laws of proofs/Answers.antt hold
+-- check, start and run to it.
 use mathlib.Core.List.{List}
 use mathlib.Core.Logic.{_⊎_, _≢_}
 use mathlib.Core.Path.{_≡_}
@@ -129,6 +130,12 @@ pub record Transition-fits (tb : Table) (img : Image) (t : ℕ) : Type 0 where
   pub between : (r : ℕ) → Timed tb t 1 r → img .number (128 + t) ≤ tb .six r + 1
   pub from : (r : ℕ) → Timed tb t 2 r → img .number (128 + t) ≤ tb .four r
 
+-- An image fits a table: it has 768 bytes, and each record fits.
+pub record Image-fits (tb : Table) (img : List ℕ) : Type 0 where
+  pub long : length img ≡ 768
+  pub place : (p : ℕ) → p < 128 → Place-fits tb (image img) p
+  pub transition : (t : ℕ) → t < 64 → Transition-fits tb (image img) t
+
 -- What start refuses: 1 to 9, and 12.
 pub data Start-says (bs img : List ℕ) : ℕ → ℕ → Type 0 where
   of-table : {n w : ℕ} → Table-says bs n w → Start-says bs img n w
@@ -145,8 +152,8 @@ pub data Run-says (bs img ws report : List ℕ) : ℕ → ℕ → Type 0 where
   words-long : 4096 < length ws → Run-says bs img ws report 11 0
   room : length report < 24 * (length ws / 8) → Run-says bs img ws report 12 0
 
--- The order: 1; then records in order, each tested for 2, 3, 4; then 5, 6 and so on. Within one stage the lower where comes first, and at
--- one record the lower number.
+-- The order: 1; then records in order, each tested for 2, 3, 4; then 5, 6 and so on. Within one stage the lower
+-- where comes first, and at one record the lower number.
 unfoldable pub stage : ℕ → ℕ
 stage n = cond (eqb n 3 || eqb n 4) 2 n
 

@@ -1,5 +1,6 @@
--- The source's own counter, which counts on for ever (source document 001, definition 7, rules 3 to 6), beside the page's, which stops at a for
--- sort 2. The law of proofs/Source.antt says that over any run the two make no difference.
+-- The source's own counter, which counts on for ever (source document 001, definition 7, rules 3 to 6), beside
+-- the page's, which stops at a for sort 2. The law of proofs/Source.antt says that over any run the two make no
+-- difference.
 use mathlib.Core.Bool.{cond, _||_}
 use mathlib.Core.List.{List, [], _∷_}
 use mathlib.Core.Path.{_≡_}

@@ -1,4 +1,5 @@
--- Document 01, run, as a relation: so many cycles of the definition are taken, and what they leave. Cycles done is the number of these steps.
+-- Document 01, run, as a relation: so many cycles of the definition are taken, and what they leave. Cycles done
+-- is the number of these steps.
 use mathlib.Core.List.{List, [], _∷_, _++_}
 use Prim.Native.Nat.{ℕ, suc, _≤_, _<_}
 use Rattle.meaning.specs.Table.{Table, ceiling}
@@ -15,10 +16,14 @@ Bursts tb img word p =
     (p < 128) × (ceiling tb p < cycle tb img word .after .tokens p)
     × ((q : ℕ) → q < p → cycle tb img word .after .tokens q ≤ ceiling tb q)
 
--- `Steps tb words img n left img′ bytes`: n cycles are finished, with the words in front; these words are left, this is the image then, and
--- these are the bytes of the finished cycles' records.
+-- `Steps tb words img n left img′ bytes`: n cycles are finished, with the words in front; these words are left,
+-- this is the image then, and these are the bytes of the finished cycles' records.
 pub data Steps (tb : Table) : List ℕ → List ℕ → ℕ → List ℕ → List ℕ → List ℕ → Type 0 where
   none : {ws img : List ℕ} → Steps tb ws img 0 ws img []
   more : {w n : ℕ} {ws img left img′ bytes : List ℕ} → Stays tb img w
       → Steps tb ws (image-bytes (cycle tb img w .after)) n left img′ bytes
       → Steps tb (w ∷ ws) img (suc n) left img′ (cycle tb img w .written ++ bytes)
+
+-- After n finished cycles the image is this one.
+abbrev pub Reaches : Table → List ℕ → List ℕ → ℕ → List ℕ → Type 0
+Reaches tb ws img n img′ = (left : List ℕ) × (bytes : List ℕ) × Steps tb ws img n left img′ bytes

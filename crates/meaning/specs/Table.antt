@@ -1,4 +1,5 @@
--- Document 01, "Tables": records of eight bytes, and the table of kinds. A table is a list of bytes; records are counted from 0.
+-- Document 01, "Tables": records of eight bytes, and the table of kinds. A table is a list of bytes; records
+-- are counted from 0.
 use mathlib.Core.Bool.{Bool, cond, _&&_}
 use mathlib.Core.List.{List, [], _∷_}
 use Prim.Native.Nat.{ℕ, _+_, _*_, _-_, _/_}
@@ -96,7 +97,8 @@ total tb p f =
     let value = f r in
     cond (p r) value 0)
 
--- What column f says in the record of kind k that declares x. A sound table has at most one; 0 where there is none.
+-- What column f says in the record of kind k that declares x. A sound table has at most one; 0 where there is
+-- none.
 abbrev pub declared : Table → ℕ → ℕ → (ℕ → ℕ) → ℕ
 declared tb k x f = total tb (λ r. is tb k r && eqb (tb .one r) x) f
 

@@ -2,28 +2,21 @@
 use mathlib.Core.Bool.{Bool, true, false, cond, not, _&&_, _||_, and-true, and-false}
 use mathlib.Core.Path.{_≡_, refl, sym, ap, _∙_}
 use mathlib.Core.Logic.{⊎-elim}
-use Prim.Native.Nat.{ℕ, zero, suc, _+_, _-_, _*_, _/_, _%_, _^_, min, max, _≤_, _<_, suc-le-suc}
-use native.Mathlib.Nat.{not-suc-le-zero, le-of-suc-le-suc, lt-of-lt-of-le, lt-of-not-le, eq-or-lt-of-le, lt-of-le-of-lt, add-zero, zero-min, zero-max, max-le, min-le-left, min-eq-right, max-eq-left, zero-div, div-one, div-eq-of-lt, div-div-eq-div-mul, pow-suc, pow-succ', one-mul}
+use Prim.Native.Nat.{ℕ, zero, suc, _-_, _*_, _/_, _%_, _^_, min, max, _≤_, _<_, suc-le-suc}
+use native.Mathlib.Nat.{not-suc-le-zero, le-of-suc-le-suc, lt-of-not-le, eq-or-lt-of-le, lt-of-le-of-lt, zero-min, zero-max, max-le, min-le-left, min-eq-right, max-eq-left, pow-suc, one-mul}
 use native.Mathlib.Omega.{arith}
 use lib.Dec.{eqb, eqb·zero-suc, eqb·suc-zero, eqb·suc-suc}
 use lib.Arith.{lt-one, digits-mod}
-use lib.Pow.{pow-mono, shl-exact}
-use lib.Bits.{bitOr, bitAnd, or-step, or-shr, or-shifted, and-step, and-shr, and-le-l}
+use lib.Pow.{shl-exact}
+use lib.Bits.{bitOr, bitAnd, or-step, or-shr, and-step, and-shr, and-le-l}
 use lib.Count.{trailingZeros, under, trailing-le}
 use borrow.Author.Tests.{eqb-true, eq-eqb, ne-eqb}
-use Rattle.meaning.specs.Below.{some, sum, first}
-use Rattle.meaning.specs.Bytes.{bit, bits}
+use Rattle.meaning.specs.Below.{some, first}
+use Rattle.meaning.specs.Bytes.{bit}
 use Rattle.meaning.proofs.Bool.{not-both}
-use Rattle.meaning.proofs.Below.{last, some-elim, none-elim, first-is, first-none}
-
--- The lowest bit of a number, and the bits above it, which are those of its half.
-pub bit-low : (a : ℕ) → bit a 0 ≡ eqb (a % 2) 1
-unfolding bit
-bit-low a = rw (div-one a)
-
-pub bit-high : (a k : ℕ) → bit a (suc k) ≡ bit (a / 2) k
-unfolding bit
-bit-high a k = ap (λ (x : ℕ). eqb (x % 2) 1) (ap (λ (x : ℕ). a / x) (pow-succ' 2 k) ∙ sym (div-div-eq-div-mul a 2 (2 ^ k)))
+use Rattle.meaning.proofs.Bits.{bit-past}
+pub use Rattle.meaning.proofs.Bits.{bit-low, bit-high, bit-zero, bits-bit, bits-low}
+use Rattle.meaning.proofs.Below.{some-elim, none-elim, first-is, first-none}
 
 -- A number's lowest digit is 0 or 1, so that its test says which.
 digit-low : (a : ℕ) → a % 2 < 2
@@ -83,11 +76,7 @@ bit-and a b k =
     let y = b / 2 ^ k in
     ap (λ (z : ℕ). eqb z 1) (ap (λ (z : ℕ). z % 2) (and-shr a b k) ∙ and-low x y) ∙ digit-and (x % 2) (y % 2) (digit-low x) (digit-low y)
 
--- Nothing is in 0, and k alone is in 2 ^ k.
-pub bit-zero : (j : ℕ) → bit 0 j ≡ false
-unfolding bit
-bit-zero j = ap (λ (x : ℕ). eqb (x % 2) 1) (zero-div (2 ^ j))
-
+-- k alone is in 2 ^ k.
 pub bit-one : (k j : ℕ) → bit (2 ^ k) j ≡ eqb k j
 bit-one zero zero = bit-low 1
 bit-one zero (suc j) = bit-high 1 j ∙ bit-zero j ∙ sym (eqb·zero-suc j)
@@ -102,15 +91,10 @@ bit-one (suc k) (suc j) =
 pub one-shifted : (k : ℕ) → k < 64 → 1 * 2 ^ k % 2 ^ 64 ≡ 2 ^ k
 one-shifted k h = shl-exact 1 k 64 (omega arith) (omega arith) ∙ one-mul (2 ^ k)
 
--- A number below 2 ^ n has nothing from n on.
-pub bit-past : (n a k : ℕ) → a < 2 ^ n → n ≤ k → bit a k ≡ false
-unfolding bit
-bit-past n a k h l = ap (λ (x : ℕ). eqb (x % 2) 1) (div-eq-of-lt (lt-of-lt-of-le h (pow-mono l)))
-
+-- What a word has is below 64.
 pub bit-out : (a k : ℕ) → a < 2 ^ 64 → 64 ≤ k → bit a k ≡ false
 bit-out = bit-past 64
 
--- What a word has is below 64.
 pub bit-under : (a k : ℕ) → a < 2 ^ 64 → bit a k ≡ true → k < 64
 bit-under a k h e = lt-of-not-le (λ (l : 64 ≤ k). not-both e (bit-out a k h l))
 
@@ -143,49 +127,6 @@ zero-set a h = go (some 64 (bit a)) refl
         let w = some-elim 64 (bit a) e in
         ne-eqb a 0 (λ z. not-both (w .2) (ap (λ (x : ℕ). bit x (w .0)) z ∙ bit-zero (w .0)))
     go false e = eq-eqb a 0 (same-set a 0 h (omega arith) (λ k l. none-elim 64 (bit a) e k l ∙ sym (bit-zero k)))
-
--- What 2 ^ n adds to a number below it is n.
-bit-add : (n a k : ℕ) → a < 2 ^ n → bit (a + 2 ^ n) k ≡ (eqb n k || bit a k)
-bit-add n a k h =
-    let joined : bitOr (2 ^ n) a ≡ a + 2 ^ n = ap (λ (x : ℕ). bitOr x a) (sym (one-mul (2 ^ n))) ∙ or-shifted 1 n a h ∙ omega arith in
-    ap (λ (x : ℕ). bit x k) (sym joined) ∙ bit-or (2 ^ n) a k ∙ rw (bit-one n k)
-
--- The number made of the tests below n is below 2 ^ n, and has what passes.
-abbrev pub made : (ℕ → Bool) → ℕ → ℕ
-made p k = cond (p k) (2 ^ k) 0
-
-pub made-low : (n : ℕ) (p : ℕ → Bool) → sum n (made p) < 2 ^ n
-unfolding sum
-made-low zero p = omega arith
-made-low (suc n) p = go (p n) (made-low n p)
-  where
-    go : (t : Bool) → sum n (made p) < 2 ^ n → sum n (made p) + cond t (2 ^ n) 0 < 2 ^ suc n
-    go true h = omega (arith, pow-suc 2 n)
-    go false h = omega (arith, pow-suc 2 n)
-
-pub made-bit : (n : ℕ) (p : ℕ → Bool) (k : ℕ) → k < n → bit (sum n (made p)) k ≡ p k
-unfolding sum
-made-bit zero p k h = absurd (not-suc-le-zero h)
-made-bit (suc n) p k h = ⊎-elim (λ (q : k ≡ n). at-last (p n) refl q) (λ (l : k < n). below (p n) (made-bit n p k l) l) (last h)
-  where
-    none : k ≡ n → bit (sum n (made p)) k ≡ false
-    none q = bit-past n (sum n (made p)) k (made-low n p) (omega arith)
-
-    at-last : (t : Bool) → p n ≡ t → k ≡ n → bit (sum n (made p) + cond t (2 ^ n) 0) k ≡ p k
-    at-last true e q = bit-add n (sum n (made p)) k (made-low n p) ∙ rw (eq-eqb n k (sym q)) (sym (ap p q ∙ e))
-    at-last false e q = rw (add-zero (sum n (made p))) (none q ∙ sym (ap p q ∙ e))
-
-    below : (t : Bool) → bit (sum n (made p)) k ≡ p k → k < n → bit (sum n (made p) + cond t (2 ^ n) 0) k ≡ p k
-    below true w l = bit-add n (sum n (made p)) k (made-low n p) ∙ rw (ne-eqb n k (λ e. omega arith)) w
-    below false w l = rw (add-zero (sum n (made p))) w
-
-pub bits-bit : (p : ℕ → Bool) (k : ℕ) → k < 64 → bit (bits p) k ≡ p k
-unfolding bits
-bits-bit = made-bit 64
-
-pub bits-low : (p : ℕ → Bool) → bits p < 2 ^ 64
-unfolding bits
-bits-low = made-low 64
 
 -- What has k, less 2 ^ k, has the rest.
 pub bit-less : (k a j : ℕ) → bit a k ≡ true → bit (a - 2 ^ k) j ≡ (bit a j && not (eqb k j))

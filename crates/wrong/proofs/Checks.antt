@@ -1,4 +1,5 @@
--- Wrong engines that no edit of the code's own shape gives: on a named input the statements refuse what such an engine answers or leaves.
+-- Wrong engines of check, start and lookup: on a named input the promises refuse what such an engine answers or leaves. Most of them are no edit of the
+-- code's own shape; those that are one too (`second-input-arc`, `same-condition`, `post-arc-twice`) show it here without a proof of the code.
 use mathlib.Core.List.{List, [], _∷_, _++_}
 use mathlib.Core.Path.{_≡_, refl, ap, _∙_}
 use Prim.Native.Nat.{ℕ}
@@ -10,7 +11,8 @@ use Rattle.meaning.specs.Table.{kinds, place, transition, table}
 use Rattle.meaning.specs.Answer.{Answer, refused, decide}
 use Rattle.meaning.specs.Priority.{through, above}
 use Rattle.meaning.specs.Defined.{bad-length, bad-kind, interval, bad-field, same, twice, fault, faulty, names-place, names-transition, names-second, unknown, empty, arc-at-place, arc-at-transition, isolated, circle, some-two, conflict, complementary, inhibited, settled, unsettled, clashes, table-checks, check}
-use Rattle.meaning.specs.Promise.{Checked, Started}
+use Rattle.meaning.specs.Calls.{lookup-from}
+use Rattle.meaning.specs.Promise.{Checked, Started, Looked-up}
 use Rattle.meaning.specs.Nets as net
 use Rattle.engine.proofs.Starts.{started-refused}
 
@@ -181,3 +183,14 @@ pub room-before-table : (image : List ℕ) → ¬ Started nothing [] (refused 12
 room-before-table image s =
     let left = started-refused nothing [] refuses-nothing .0 in
     omega (arith, ap (λ (a : Answer). a .number) (s .answer-is ∙ left ∙ answers .14))
+
+-- LOOKUP
+
+-- Two equal records stand in 48 bytes, the second at byte 24.
+second-at-24 : lookup-from (replicate 48 0) 2 ≡ 24
+unfolding lookup-from
+second-at-24 = refl
+
+-- Hands back the part of cycle 1 for cycle 2, where the bytes of the two are equal.
+pub first-of-equal-records : (block byte : ℕ) → ¬ Looked-up (replicate 48 0) (block, byte) 2 (replicate 24 0) (block, byte)
+first-of-equal-records block byte l = omega (arith, l .byte-is, second-at-24)

@@ -1,3 +1,3 @@
--- Wrong engines that no edit of the code's own shape gives: what they answer or leave on a named input fails the statements.
+-- Wrong engines: what they answer or leave on a named input fails the promises.
 pub mod Checks
 pub mod Runs

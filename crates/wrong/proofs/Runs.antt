@@ -1,4 +1,5 @@
--- Wrong engines of run that no edit of the code's own shape gives: on a named input run's statement refuses what such an engine answers or leaves.
+-- Wrong engines of run: on a named input run's promise refuses what such an engine answers or leaves. Some are an edit of the code's own shape too
+-- (`residual-of-basic-arcs`, `reset-by-new-marking`, `full-before-withdrawals`, `keeps-the-refused-tokens`, `keeps-the-refused-counters`), the others are not.
 use mathlib.Core.List.{List, _++_}
 use mathlib.Core.Path.{_≡_, refl, ap}
 use Prim.Native.Nat.{ℕ, _*_}
@@ -67,11 +68,12 @@ image-byte i r = ap (λ (l : List ℕ). getD l i 0) (r .image-is)
 -- THE ENGINES
 
 module _ (a : Answer) (img report : List ℕ) where
-  -- Asks the residual of basic arcs only: t1's test arc still finds its token, and both fire.
+  -- Asks the residual of basic arcs only: t1's test arc still finds its token, and both fire (document 01, errors, 3).
   pub residual-of-basic-arcs : getD report 0 0 ≡ 3 → ¬ Ran net7-ranked (begun net7-ranked) (quiet 1) (sevens 24) a img report
   residual-of-basic-arcs e r = omega (arith, e, report-byte 0 r, leaves .0)
 
-  -- Counts in the residual what is put back: t1 spends the token that t0 puts back.
+  -- Counts in the residual what is put back: t1 spends the token that t0 puts back (document 01, errors, 6). No edit of the code does that: when
+  -- the set is chosen nothing is put yet, and what will be put is added up only once the set is known.
   pub residual-with-posts : getD report 0 0 ≡ 3 → ¬ Ran put-back (begun put-back) (quiet 1) (sevens 24) a img report
   residual-with-posts e r = omega (arith, e, report-byte 0 r, leaves .1)
 

@@ -1,6 +1,6 @@
--- `engine::lookup` meets its contract: each return is one of the two cases of the definition.
+-- `engine::lookup` meets its contract: each return is one of the two cases of the definition, and stands where the code cut it.
 use mathlib.Core.Logic.{inl, inr}
-use mathlib.Core.Path.{_≡_, sym, ap, _∙_}
+use mathlib.Core.Path.{_≡_, refl, sym, ap, _∙_}
 use Prim.Native.Nat.{ℕ, _+_, _-_, _*_, _≤_}
 use native.Mathlib.Omega.{arith}
 use lib.ListN.{length, take, drop}
@@ -14,7 +14,9 @@ slice-aggregate-result : tie.Need-slice-aggregate-result
 slice-aggregate-result c = search needs
 
 returns : tie.Need-returns
-returns c = record { part-is = sym (lookup-none _ _ (inl (omega (arith, c .before .if1 .taken)))) }
+returns c =
+    let none = lookup-none (c .before .before .args .report .now) (c .before .before .args .cycle) (inl (omega (arith, c .before .if1 .taken))) in
+    record { part-is = sym (none .0); block-is = refl; byte-is = omega (arith, none .1) }
 
 sub-from : tie.Need-sub-from
 sub-from c = search needs
@@ -41,13 +43,16 @@ returns-2 c =
     let width : 24 * (cycle - 1) + 24 - 24 * (cycle - 1) ≡ 24 = omega arith in
     let some-cycle : 1 ≤ cycle = nonzero cycle (c .before .before .if1 .left) in
     let room : 24 * cycle ≤ length report = omega (arith, c .before .if2 .taken) in
-    record { part-is = ap (λ (n : ℕ). take n (drop (24 * (cycle - 1)) report)) width ∙ sym (lookup-whole report cycle some-cycle room .0) }
+    let found = lookup-whole report cycle some-cycle room in
+    record { part-is = ap (λ (n : ℕ). take n (drop (24 * (cycle - 1)) report)) width ∙ sym (found .0); block-is = refl; byte-is = omega (arith, found .2) }
 
 slice-aggregate-result-2 : tie.Need-slice-aggregate-result-2
 slice-aggregate-result-2 c = search needs
 
 returns-3 : tie.Need-returns-3
-returns-3 c = record { part-is = sym (lookup-none _ _ (inr (omega (arith, c .before .if2 .left)))) }
+returns-3 c =
+    let none = lookup-none (c .before .before .before .args .report .now) (c .before .before .before .args .cycle) (inr (omega (arith, c .before .if2 .left))) in
+    record { part-is = sym (none .0); block-is = refl; byte-is = omega (arith, none .1) }
 
 pub lookup-spec : {M : Type 1} → statement M
 lookup-spec =
