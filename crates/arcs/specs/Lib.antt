@@ -1,0 +1,2 @@
+-- What the turned rows hold.
+pub mod Arcs

@@ -1,0 +1,2 @@
+-- What the two edges make of counters and conditions.
+pub mod Edges

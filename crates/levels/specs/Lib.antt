@@ -1,0 +1,2 @@
+-- What is kept of each place, and the level on which it holds.
+pub mod Levels

@@ -1,0 +1,2 @@
+-- Whom the rows name.
+pub mod Named

@@ -1,0 +1,4 @@
+-- Laws that the readers of the rows share.
+pub mod Empty
+pub mod Shown
+pub mod Few

@@ -1,0 +1,2 @@
+-- What one cycle over rows comes to.
+pub mod Turn
