@@ -13,7 +13,7 @@ use Rattle.meaning.specs.Image.{State, image, state, image-bytes, fresh}
 use Rattle.meaning.specs.Calls.{run}
 use Rattle.meaning.specs.Steps.{Bursts, Steps, Reaches}
 use Rattle.meaning.specs.Orders.{Safe}
-use Rattle.meaning.specs.Rules.{State-spelt, Fresh, Turn}
+use Rattle.meaning.specs.Rules.{Word-spelt, State-spelt, Fresh, Turn}
 use Rattle.meaning.specs.Finished.{Finished, fired-in, actions-in, functions-in}
 use Rattle.meaning.specs.Promise.{Checked, Started, Ran, Looked-up}
 use Rattle.meaning.proofs.Answers.{check-refuses, check-accepts, start-refuses, start-accepts, run-refuses}
@@ -188,11 +188,13 @@ module _ (report : List ℕ) (at : ℕ × ℕ) (cycle : ℕ) (part : List ℕ) (
   pub lookup-is-empty : (cycle < 1) ⊎ (length report < 24 * cycle) → part ≡ []
   lookup-is-empty n = promised .part-is ∙ lookup-none report cycle n .0
 
--- Of the report that a run left, lookup of each cycle done hands back that cycle's record: its sets make the turn.
+-- Of the report that a run left, lookup of each cycle done hands back that cycle's record: its sets make the turn that its word and the
+-- image before it come to.
 pub lookup-after-run : (bs img ws report : List ℕ) (a : Answer) (img′ report′ : List ℕ) → Ran bs img ws report a img′ report′
     → (at : ℕ × ℕ) (k : ℕ) (part : List ℕ) (part-at : ℕ × ℕ) → Looked-up report′ at k part part-at → 1 ≤ k → k ≤ a .cycles
-    → (word : ℕ) × (before : List ℕ) × (next : State)
+    → (word : ℕ) × (before : List ℕ) × (next : State) × Word-spelt ws (k - 1) word
+    × Reaches (table bs) (words ws) img (k - 1) before
     × Turn (table bs) (state (image before)) word (bit (fired-in part)) (bit (actions-in part)) (bit (functions-in part)) next
 lookup-after-run bs img ws report a img′ report′ ran at k part part-at found l h =
     let cycle = every-finished-cycle bs img ws report a img′ report′ ran k l h in
-    (cycle .word, cycle .before, cycle .next, rw (found .part-is) (cycle .turn))
+    (cycle .word, cycle .before, cycle .next, cycle .word-is, cycle .before-is, rw (found .part-is) (cycle .turn))

@@ -16,22 +16,22 @@ use Rattle.meaning.specs.Calls.{word-checks}
 use Rattle.meaning.proofs.Bool.{or-false-right}
 use Rattle.meaning.proofs.Below.{first-none}
 use Rattle.meaning.proofs.Decide.{All, Refuses, accepted-clean}
-use Rattle.timing.specs.declared.Intervals.{Intervals}
-use Rattle.image.specs.Fit.{wrong-by}
+use Rattle.rows.specs.declared.Declared.{Declared}
+use Rattle.state.specs.Fit.{wrong-by}
+use Rattle.judge.proofs.Stages.{hands-on, answers}
 use Rattle.engine.specs.Said.{lent-checks}
-use Rattle.engine.proofs.Stages.{hands-on, answers}
 
-module _ (img ws report index : List ℕ) (x : Intervals) where
+module _ (img ws report : List ℕ) (known : Declared) (times : List ℕ) where
   -- What the checks decide.
   abbrev lent : Answer
-  lent = decide (lent-checks img ws report index x) (accepted 0)
+  lent = decide (lent-checks img ws report known times) (accepted 0)
 
   -- The checks of the image, of the words and of the room.
   abbrev long-check : Check
   long-check = check-of 1 (λ k. not (eqb (length img) 768)) (λ k. refused 10 192)
 
   abbrev fit-check : Check
-  fit-check = check-of 192 (wrong-by img index x) (λ k. refused 10 k)
+  fit-check = check-of 192 (wrong-by img known times) (λ k. refused 10 k)
 
   pub lent-long : length img ≢ 768 → lent ≡ refused 10 192
   unfolding lent-checks first
@@ -42,10 +42,10 @@ module _ (img ws report index : List ℕ) (x : Intervals) where
     unfolding lent-checks first
     past-long = hands-on long-check _ (accepted 0) (rw (eq-eqb (length img) 768 long))
 
-    pub lent-wrong : first 192 (wrong-by img index x) < 192 → lent ≡ refused 10 (first 192 (wrong-by img index x))
+    pub lent-wrong : first 192 (wrong-by img known times) < 192 → lent ≡ refused 10 (first 192 (wrong-by img known times))
     lent-wrong l = past-long ∙ answers fit-check (word-checks ws report) (accepted 0) l
 
-    module _ (fits : first 192 (wrong-by img index x) ≡ 192) where
+    module _ (fits : first 192 (wrong-by img known times) ≡ 192) where
       past-fit : lent ≡ decide (word-checks ws report) (accepted 0)
       past-fit = past-long ∙ hands-on fit-check (word-checks ws report) (accepted 0) fits
 
@@ -67,7 +67,7 @@ module _ (img ws report index : List ℕ) (x : Intervals) where
         lent-fine l = past-fit ∙ rw (eq-eqb (length ws % 8) 0 whole, le-ltb 4096 (length ws) few, le-ltb (length report) (24 * (length ws / 8)) l)
 
   -- Each of the checks refuses what it finds.
-  lent-refusing : All Refuses (lent-checks img ws report index x)
+  lent-refusing : All Refuses (lent-checks img ws report known times)
   unfolding lent-checks word-checks
   lent-refusing =
       (λ k l e. (omega arith, refl), (λ k l e. (omega arith, refl), (λ k l e. (omega arith, refl), (λ k l e. (omega arith, refl), tt))))
@@ -78,9 +78,9 @@ module _ (img ws report index : List ℕ) (x : Intervals) where
     unfolding lent-checks
     long-is = eqb-true (length img) 768 (not-false _ (accepted-clean _ (accepted 0) lent-refusing none .0 0 (omega arith)))
 
-    pub fits-is : first 192 (wrong-by img index x) ≡ 192
+    pub fits-is : first 192 (wrong-by img known times) ≡ 192
     unfolding lent-checks
-    fits-is = first-none 192 (wrong-by img index x) (accepted-clean _ (accepted 0) lent-refusing none .1 .0)
+    fits-is = first-none 192 (wrong-by img known times) (accepted-clean _ (accepted 0) lent-refusing none .1 .0)
 
     pub few-is : length ws ≤ 4096
     unfolding lent-checks word-checks
@@ -92,8 +92,8 @@ module _ (img ws report index : List ℕ) (x : Intervals) where
     unfolding lent-checks word-checks
     room-is = ltb-false (length report) (24 * (length ws / 8)) (accepted-clean _ (accepted 0) lent-refusing none .1 .1 .1 .0 0 (omega arith))
 
-  -- Where the index and the intervals are the table's, these are run's own checks behind the table's.
-  pub lent-same : (tb : Table) → first 192 (wrong-by img index x) ≡ first 192 (wrong tb (image img))
+  -- Where these are the table's, they are run's own checks behind the table's.
+  pub lent-same : (tb : Table) → first 192 (wrong-by img known times) ≡ first 192 (wrong tb (image img))
       → lent ≡ decide (state-checks tb img ++ word-checks ws report) (accepted 0)
   unfolding lent-checks state-checks decide
   lent-same tb same = rw same

@@ -1,66 +1,44 @@
 -- What the engine's answers and parts say, in the words of the meaning.
-use mathlib.Core.Bool.{true, cond, not, _&&_, _||_}
+use mathlib.Core.Bool.{not}
 use mathlib.Core.List.{List, _∷_}
 use mathlib.Core.Path.{_≡_}
-use Prim.Native.Nat.{ℕ, _+_, _*_, _/_, _%_, _≤_, _<_}
-use lib.Dec.{eqb, ltb}
-use lib.ListN.{length, getD, set}
-use Rattle.meaning.specs.Bytes.{bit}
-use Rattle.meaning.specs.Table.{table, is}
+use Prim.Native.Nat.{ℕ, _*_, _≤_}
+use lib.Dec.{eqb}
+use lib.ListN.{length}
+use Rattle.meaning.specs.Table.{table}
 use Rattle.meaning.specs.Answer as meaning
-use Rattle.meaning.specs.Priority.{above}
-use Rattle.meaning.specs.Defined.{check}
 use Rattle.meaning.specs.Calls.{word-checks}
-use Rattle.records.specs.declared.Rec.{Rec}
-use Rattle.table.specs.declared.Pass.{Pass}
-use Rattle.table.specs.Index.{extent-of, Indexed, Reaches, Roomy, transitions-below}
-use Rattle.timing.specs.declared.Intervals.{Intervals}
-use Rattle.image.specs.Fit.{wrong-by}
+use Rattle.meaning.specs.Promise.{Ran}
+use Rattle.rows.specs.declared.Declared.{Declared}
+use Rattle.rows.specs.Filed.{Sizes, Net-of}
+use Rattle.state.specs.Fit.{wrong-by}
 use Rattle.engine.specs.declared.Answer.{Answer}
-use Rattle.engine.specs.declared.tables.Judged.{Judged}
 
 -- The answer that a call's struct holds: number, where and cycles done.
 abbrev pub said : Answer → meaning.Answer
 said a = record { number = a .number; at = a .at; cycles = a .cycles }
 
--- The reach is the table's extent; and so many rows of the index, of takers and of wants, and so many links are enough for the table: there are whole
--- eights of numbers, each number of the table is one of them, and each record has its link.
-pub record Fitting (bs : List ℕ) (reach rows numbers wants links : ℕ) : Type 0 where
-  pub extent : reach ≡ extent-of (table bs)
-  pub roomy : Roomy (table bs) numbers
-  pub rows-are : rows ≡ 8 * numbers
-  pub wants-are : wants ≡ numbers
-  pub links-are : table bs .records ≤ links
-  pub eighths : ℕ
-  pub whole : numbers ≡ 8 * eighths
-  pub any : 0 < numbers
-
--- Each transition below the reach has its row among so many of those below it, of those above it, and of those in conflict with it.
-abbrev pub Ranked : ℕ → ℕ → ℕ → ℕ → Type 0
-Ranked reach below above conflicts = (transitions-below reach ≤ below) × (transitions-below reach ≤ above) × (transitions-below reach ≤ conflicts)
-
--- What the stages of a table come to: its answer; and, where it is accepted, the pass came to its end, the index holds all its records and goes no further
--- than the reach, no record's byte 1 is at the reach or past it and no transition that byte 2 names, the reach goes no further than it must, and the rows have those above each transition.
-pub record Judges (bs : List ℕ) (s : Pass) (j : Judged) (reach : ℕ) (index higher : List ℕ) : Type 0 where
-  pub answer : meaning.refused (j .number) (j .at) ≡ check bs
-  pub whole : j .number ≡ 0 → s .at ≡ table bs .records
-  pub indexed : j .number ≡ 0 → Indexed (table bs) (table bs .records) index
-  pub reaches : j .number ≡ 0 → Reaches index (reach)
-  pub below : j .number ≡ 0 → (r : ℕ) → r < table bs .records
-      → (table bs .one r < reach) × ((is (table bs) 3 r || is (table bs) 5 r) ≡ true → table bs .two r < reach)
-  pub least : j .number ≡ 0 → (n : ℕ) → 0 < n → Roomy (table bs) n → reach ≤ n
-  pub higher-is : j .number ≡ 0 → (t u : ℕ) → t < 64 → u < 64 → bit (getD higher t 0) u ≡ above (table bs) u t
-
--- A record that declares a place stores its first tokens in the place's two bytes; any other stores nothing.
-unfoldable pub put-of : List ℕ → Rec → List ℕ
-put-of image x =
-    cond (eqb (x .kind) 1 && ltb (x .one) 128)
-    (set (set image (4 * x .one) (x .four % 256)) (4 * x .one + 1) (x .four / 256))
-    image
-
--- Answers 10, 11 and 12 in the page's order, the image held to the index and the intervals.
-unfoldable pub lent-checks : List ℕ → List ℕ → List ℕ → List ℕ → Intervals → List meaning.Check
-lent-checks img ws report index x =
+-- Answers 10, 11 and 12 in the page's order, the image held to what is declared and how far the counters rise.
+unfoldable pub lent-checks : List ℕ → List ℕ → List ℕ → Declared → List ℕ → List meaning.Check
+lent-checks img ws report known times =
     meaning.check-of 1 (λ k. not (eqb (length img) 768)) (λ k. meaning.refused 10 192)
-    ∷ meaning.check-of 192 (wrong-by img index x) (λ k. meaning.refused 10 k)
+    ∷ meaning.check-of 192 (wrong-by img known times) (λ k. meaning.refused 10 k)
     ∷ word-checks ws report
+
+-- The rows are those of the accepted table that the bytes spell, with room for whole eights of numbers.
+pub record Proceed-of (bs : List ℕ) (n : ℕ) (known : Declared) (rows times : List ℕ) (w s : List (List ℕ)) (heads posts : List ℕ)
+    : Type 0 where
+  pub net-of : Net-of bs n rows w s heads posts times known
+  pub eights : ℕ
+  pub enough : n ≤ 8 * eights
+  pub few : 8 * eights ≤ 128
+  pub sizes : Sizes (8 * eights) (table bs .records) rows w s heads posts times
+
+pub record Proceed-asks (n : ℕ) (known : Declared) (rows times : List ℕ) (w s : List (List ℕ)) (heads posts : List ℕ) : Type 0 where
+  pub bs : List ℕ
+  pub of : Proceed-of bs n known rows times w s heads posts
+
+-- Whatever table the rows are of, this is what its run leaves.
+pub record Proceeds (n : ℕ) (known : Declared) (rows times : List ℕ) (w s : List (List ℕ)) (heads posts img ws report : List ℕ) (a : Answer)
+    (img′ report′ : List ℕ) : Type 0 where
+  pub ran : (bs : List ℕ) → Proceed-of bs n known rows times w s heads posts → Ran bs img ws report (said a) img′ report′

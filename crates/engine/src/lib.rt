@@ -1,16 +1,16 @@
 // The engine's calls over lent bytes: check, start, run, lookup. Each call has its answer table in docs/ENGINE.md.
-ghost use mathlib.Core.Bool.{false};
+use rows::Declared;
+ghost use mathlib.Core.Bool.{true, false};
 ghost use mathlib.Core.Path.{_≡_};
-ghost use lib.ListN.{length, replicate};
+ghost use Prim.Native.Nat.{_≤_};
+ghost use lib.ListN.{length};
 ghost use denote.Ref.{ptr};
+ghost use Rattle.meaning.specs.Table.{table};
+ghost use Rattle.meaning.specs.Answer.{accepted, refused, decide};
 ghost use Rattle.meaning.specs.Defined.{bad-length};
 ghost use Rattle.meaning.specs.Promise.{Checked, Started, Ran, Looked-up};
-ghost use Rattle.engine.specs.Said.{said, Fitting, Ranked};
-
-mod sizes; // sizes.rt: rows as far as a table goes
-mod tables; // tables.rt: answers 2 to 9 of a table
-mod writing; // writing.rt: the image of a fresh net
-mod playing; // playing.rt: answers 10 to 12, and the cycles
+ghost use Rattle.rows.specs.Extent.{Roomy};
+ghost use Rattle.engine.specs.Said.{said, lent-checks, Proceed-asks, Proceeds};
 
 // An answer: its number (0 accepted), the page's where, the cycles done.
 pub struct Answer {
@@ -19,79 +19,105 @@ pub struct Answer {
     pub cycles: usize,
 }
 
+// Is the length no multiple of 8, or above 8,192?
+fn bad_length(t: &[u8]) -> bool
+    ensures { λ r. ⌜ r ≡ bad-length (now (t .entry)) ⌝ }
+{
+    if t.len() % 8 != 0 {
+        return true;
+    }
+    8192 < t.len()
+}
+
+// How many numbers need rows: one more than the highest byte 1, and no more than 128.
+fn numbers(t: &[u8]) -> usize
+    ensures { λ n. ⌜ Roomy (table (now (t .entry))) n × (n ≤ 128) ⌝ }
+{
+    let n = rows::extent(t);
+    if n < 128 { n } else { 128 }
+}
+
+// Are rows for 32 numbers and 256 records enough?
+fn is_small(n: usize, bytes: usize) -> bool
+    ensures { λ r. ⌜ (r ≡ true → (n ≤ 32) × (bytes ≤ 2048)) ⌝ }
+{
+    if n <= 32 { bytes <= 2048 } else { false }
+}
+
+// Answers 2 to 9 with rows for 32 numbers and 256 records.
+fn check_small(t: &[u8], n: usize) -> Answer
+    requires { ⌜ bad-length (now t) ≡ false ⌝ }
+    requires { ⌜ Roomy (table (now t)) n × (n ≤ 32) × (length (now t) ≤ 2048) ⌝ }
+    ensures { λ a. ⌜ Checked (now (t .entry)) (said a) ⌝ }
+{
+    let mut rows = [0u64; 256];
+    let mut w = [[0u16; 64]; 32];
+    let mut s = [[0u8; 64]; 32];
+    let mut heads = [0u16; 64];
+    let mut posts = [0u16; 768];
+    let mut times = [0u32; 192];
+    let v = judge::judge(
+        t,
+        n,
+        &mut rows,
+        &mut w,
+        &mut s,
+        &mut heads,
+        &mut posts,
+        &mut times,
+    );
+    Answer {
+        number: v.number,
+        at: v.at,
+        cycles: 0,
+    }
+}
+
+// The same with rows for any table.
+fn check_large(t: &[u8], n: usize) -> Answer
+    requires { ⌜ bad-length (now t) ≡ false ⌝ }
+    requires { ⌜ Roomy (table (now t)) n × (n ≤ 128) ⌝ }
+    ensures { λ a. ⌜ Checked (now (t .entry)) (said a) ⌝ }
+{
+    let mut rows = [0u64; 1024];
+    let mut w = [[0u16; 64]; 128];
+    let mut s = [[0u8; 64]; 128];
+    let mut heads = [0u16; 64];
+    let mut posts = [0u16; 3072];
+    let mut times = [0u32; 192];
+    let v = judge::judge(
+        t,
+        n,
+        &mut rows,
+        &mut w,
+        &mut s,
+        &mut heads,
+        &mut posts,
+        &mut times,
+    );
+    Answer {
+        number: v.number,
+        at: v.at,
+        cycles: 0,
+    }
+}
+
 // check: answers 1 to 9 in the page's order, or accepted.
 pub fn check(t: &[u8]) -> Answer
     ensures { λ a. ⌜ Checked (now (t .entry)) (said a) ⌝ }
 {
-    if t.len() % 8 != 0 {
+    if bad_length(t) {
         return Answer {
             number: 1,
             at: 0,
             cycles: 0,
         };
     }
-    if 8192 < t.len() {
-        return Answer {
-            number: 1,
-            at: 0,
-            cycles: 0,
-        };
+    let n = numbers(t);
+    if is_small(n, t.len()) {
+        return check_small(t, n);
     }
-    sizes::check(t)
-}
-
-// Answers 2 to 9 of a table whose length is right, with these rows, which are lent empty and have room for the table.
-fn check_in(
-    t: &[u8],
-    reach: usize,
-    index: &mut [u64],
-    takers: &mut [u64],
-    truths: &mut [u64],
-    below: &mut [u64],
-    above: &mut [u64],
-    conflicts: &mut [u64],
-    next: &mut [u32],
-) -> Answer
-    requires { ⌜ bad-length (now t) ≡ false ⌝ }
-    requires { ⌜ Fitting (now t) reach (length (now index)) (length (now takers)) (length (now truths)) (length (now next)) ⌝ }
-    requires { ⌜ Ranked reach (length (now below)) (length (now above)) (length (now conflicts)) ⌝ }
-    requires { ⌜ (now index ≡ replicate (length (now index)) 0) × (now takers ≡ replicate (length (now takers)) 0) × (now truths ≡ replicate (length (now truths)) 0) × (now next ≡ replicate (length (now next)) 0) ⌝ }
-    requires { ⌜ (now below ≡ replicate (length (now below)) 0) × (now above ≡ replicate (length (now above)) 0) × (now conflicts ≡ replicate (length (now conflicts)) 0) ⌝ }
-    ensures { λ a. ⌜ Checked (now (t .entry)) (said a) ⌝ }
-{
-    let mut sorts = [0u8; 64];
-    let mut a = [0u16; 64];
-    let mut b = [0u16; 64];
-    let mut heads = [0u16; 256];
-    let pass = net::scan(
-        t,
-        index,
-        takers,
-        truths,
-        &mut sorts,
-        &mut a,
-        &mut b,
-        &mut heads,
-        next,
-    );
-    let j = tables::judge(
-        t,
-        pass,
-        reach,
-        index,
-        below,
-        above,
-        conflicts,
-        takers,
-        truths,
-        &heads,
-        next,
-    );
-    Answer {
-        number: j.number,
-        at: j.at,
-        cycles: 0,
-    }
+    check_large(t, n)
 }
 
 // start: answers 1 to 9, then 12 for an image that is not 768 bytes; accepted, the image is that of the fresh net. A refusal writes nothing.
@@ -109,90 +135,123 @@ pub fn start(t: &[u8], image: &mut [u8]) -> Answer
             cycles: 0,
         };
     }
-    writing::write_fresh(t, image);
+    state::fresh(t, image);
     a
 }
 
-// run: answers 1 to 9, then 10, 11 and 12, then one cycle a word, and 13 at a cycle. A refusal before any cycle writes nothing; 13 keeps the
-// finished cycles and nothing of the refused one.
-pub fn run(t: &[u8], image: &mut [u8], words: &[u8], report: &mut [u8]) -> Answer
-    ensures { λ a. ⌜ Ran (now (t .entry)) (now (image .entry)) (now (words .entry)) (now (report .entry)) (said a) (now (image .exit)) (now (report .exit)) ⌝ }
-{
-    if t.len() % 8 != 0 {
-        return Answer {
-            number: 1,
-            at: 0,
-            cycles: 0,
-        };
-    }
-    if 8192 < t.len() {
-        return Answer {
-            number: 1,
-            at: 0,
-            cycles: 0,
-        };
-    }
-    sizes::run(t, image, words, report)
+// What is found of the bytes lent beside a table: number and where of an answer.
+struct Finding {
+    number: usize,
+    at: usize,
 }
 
-// What run does with a table whose length is right, with these rows, which are lent empty and have room for the table.
-fn run_in(
-    t: &[u8],
+// Answers 10, 11 and 12, by what the table declares and how far its counters rise. No number of the table is at n or past it.
+fn judge_lent(
+    image: &[u8],
+    words: &[u8],
+    report: &[u8],
+    known: Declared,
+    times: &[u32; 192],
+    n: usize,
+) -> Finding
+    requires { ⌜ n ≤ 128 ⌝ }
+    ensures { λ v. ⌜ refused (v .number) (v .at)
+        ≡ decide (lent-checks (now (image .entry)) (now (words .entry)) (now (report .entry)) known (now (times .entry))) (accepted 0) ⌝ }
+{
+    if image.len() != 768 {
+        return Finding {
+            number: 10,
+            at: 192,
+        };
+    }
+    let wrong = state::first_wrong(image, known, times, n);
+    if wrong < 192 {
+        return Finding {
+            number: 10,
+            at: wrong,
+        };
+    }
+    if words.len() % 8 != 0 {
+        return Finding { number: 11, at: 0 };
+    }
+    if 4096 < words.len() {
+        return Finding { number: 11, at: 0 };
+    }
+    if report.len() < 24 * (words.len() / 8) {
+        return Finding { number: 12, at: 0 };
+    }
+    Finding { number: 0, at: 0 }
+}
+
+// run behind an accepted table, by the rows of its net: answers 10, 11 and 12, then one cycle a word.
+fn proceed(
+    n: usize,
+    known: Declared,
     image: &mut [u8],
     words: &[u8],
     report: &mut [u8],
-    reach: usize,
-    index: &mut [u64],
-    takers: &mut [u64],
-    truths: &mut [u64],
-    below: &mut [u64],
-    above: &mut [u64],
-    conflicts: &mut [u64],
-    next: &mut [u32],
+    rows: &[u64],
+    times: &[u32; 192],
+    w: &[[u16; 64]],
+    s: &[[u8; 64]],
+    heads: &[u16; 64],
+    posts: &[u16],
 ) -> Answer
-    requires { ⌜ bad-length (now t) ≡ false ⌝ }
-    requires { ⌜ Fitting (now t) reach (length (now index)) (length (now takers)) (length (now truths)) (length (now next)) ⌝ }
-    requires { ⌜ Ranked reach (length (now below)) (length (now above)) (length (now conflicts)) ⌝ }
-    requires { ⌜ (now index ≡ replicate (length (now index)) 0) × (now takers ≡ replicate (length (now takers)) 0) × (now truths ≡ replicate (length (now truths)) 0) × (now next ≡ replicate (length (now next)) 0) ⌝ }
-    requires { ⌜ (now below ≡ replicate (length (now below)) 0) × (now above ≡ replicate (length (now above)) 0) × (now conflicts ≡ replicate (length (now conflicts)) 0) ⌝ }
-    ensures { λ a. ⌜ Ran (now (t .entry)) (now (image .entry)) (now (words .entry)) (now (report .entry)) (said a) (now (image .exit)) (now (report .exit)) ⌝ }
+    requires { ⌜ Proceed-asks n known (now rows) (now times) (now w) (now s) (now heads) (now posts) ⌝ }
+    ensures { λ a. ⌜ Proceeds n known (now (rows .entry)) (now (times .entry)) (now (w .entry)) (now (s .entry)) (now (heads .entry))
+        (now (posts .entry)) (now (image .entry)) (now (words .entry)) (now (report .entry)) a (now (image .exit)) (now (report .exit)) ⌝ }
 {
-    let mut sorts = [0u8; 64];
-    let mut a = [0u16; 64];
-    let mut b = [0u16; 64];
-    let mut heads = [0u16; 256];
-    let pass = net::scan(
-        t,
-        index,
-        takers,
-        truths,
-        &mut sorts,
-        &mut a,
-        &mut b,
-        &mut heads,
-        next,
-    );
-    let judged = tables::judge(
-        t,
-        pass,
-        reach,
-        index,
-        below,
-        above,
-        conflicts,
-        takers,
-        truths,
-        &heads,
-        next,
-    );
-    if judged.number != 0 {
+    let lent = judge_lent(image, words, report, known, times, n);
+    if lent.number != 0 {
         return Answer {
-            number: judged.number,
-            at: judged.at,
+            number: lent.number,
+            at: lent.at,
             cycles: 0,
         };
     }
-    let v = playing::judge_lent(image, words, report, index, reach, &sorts, &a, &b);
+    let told = cycles::play(
+        n,
+        known.transitions,
+        image,
+        words,
+        report,
+        rows,
+        times,
+        w,
+        s,
+        heads,
+        posts,
+    );
+    Answer {
+        number: told.number,
+        at: told.at,
+        cycles: told.cycles,
+    }
+}
+
+// run with rows for 32 numbers and 256 records.
+fn run_small(t: &[u8], n: usize, image: &mut [u8], words: &[u8], report: &mut [u8]) -> Answer
+    requires { ⌜ bad-length (now t) ≡ false ⌝ }
+    requires { ⌜ Roomy (table (now t)) n × (n ≤ 32) × (length (now t) ≤ 2048) ⌝ }
+    ensures { λ a. ⌜ Ran (now (t .entry)) (now (image .entry)) (now (words .entry)) (now (report .entry)) (said a)
+        (now (image .exit)) (now (report .exit)) ⌝ }
+{
+    let mut rows = [0u64; 256];
+    let mut w = [[0u16; 64]; 32];
+    let mut s = [[0u8; 64]; 32];
+    let mut heads = [0u16; 64];
+    let mut posts = [0u16; 768];
+    let mut times = [0u32; 192];
+    let v = judge::judge(
+        t,
+        n,
+        &mut rows,
+        &mut w,
+        &mut s,
+        &mut heads,
+        &mut posts,
+        &mut times,
+    );
     if v.number != 0 {
         return Answer {
             number: v.number,
@@ -200,27 +259,84 @@ fn run_in(
             cycles: 0,
         };
     }
-    let e = playing::play(
-        t,
+    proceed(
+        n,
+        v.known,
         image,
         words,
         report,
-        &sorts,
-        &a,
-        &b,
-        index,
-        above,
-        takers,
-        truths,
+        &rows,
+        &times,
+        &w,
+        &s,
         &heads,
-        next,
-        reach,
+        &posts,
+    )
+}
+
+// The same with rows for any table.
+fn run_large(t: &[u8], n: usize, image: &mut [u8], words: &[u8], report: &mut [u8]) -> Answer
+    requires { ⌜ bad-length (now t) ≡ false ⌝ }
+    requires { ⌜ Roomy (table (now t)) n × (n ≤ 128) ⌝ }
+    ensures { λ a. ⌜ Ran (now (t .entry)) (now (image .entry)) (now (words .entry)) (now (report .entry)) (said a)
+        (now (image .exit)) (now (report .exit)) ⌝ }
+{
+    let mut rows = [0u64; 1024];
+    let mut w = [[0u16; 64]; 128];
+    let mut s = [[0u8; 64]; 128];
+    let mut heads = [0u16; 64];
+    let mut posts = [0u16; 3072];
+    let mut times = [0u32; 192];
+    let v = judge::judge(
+        t,
+        n,
+        &mut rows,
+        &mut w,
+        &mut s,
+        &mut heads,
+        &mut posts,
+        &mut times,
     );
-    Answer {
-        number: e.number,
-        at: e.at,
-        cycles: e.cycles,
+    if v.number != 0 {
+        return Answer {
+            number: v.number,
+            at: v.at,
+            cycles: 0,
+        };
     }
+    proceed(
+        n,
+        v.known,
+        image,
+        words,
+        report,
+        &rows,
+        &times,
+        &w,
+        &s,
+        &heads,
+        &posts,
+    )
+}
+
+// run: answers 1 to 9, then 10, 11 and 12, then one cycle a word, and 13 at a cycle. A refusal before any cycle writes nothing; 13 keeps the
+// finished cycles and nothing of the refused one.
+pub fn run(t: &[u8], image: &mut [u8], words: &[u8], report: &mut [u8]) -> Answer
+    ensures { λ a. ⌜ Ran (now (t .entry)) (now (image .entry)) (now (words .entry)) (now (report .entry)) (said a)
+        (now (image .exit)) (now (report .exit)) ⌝ }
+{
+    if bad_length(t) {
+        return Answer {
+            number: 1,
+            at: 0,
+            cycles: 0,
+        };
+    }
+    let n = numbers(t);
+    if is_small(n, t.len()) {
+        return run_small(t, n, image, words, report);
+    }
+    run_large(t, n, image, words, report)
 }
 
 // The 24 bytes of one cycle, counted from 1, as that part of the report; an empty part for 0 and for a cycle that the report does not hold

@@ -28,7 +28,8 @@ use Rattle.rows.specs.Filed.{input, joins, Sizes, Net-of}
 use Rattle.arcs.specs.Arcs.{low, high, rivals-of, rival, Rivals}
 use Rattle.arcs.proofs.Meeting.{some-split}
 use Rattle.firing.specs.Fired.{taken-at, stops-with, stopped-at, left-enabled, keeps, There, Housed, Ranks, Fires}
-use Rattle.firing.proofs.Arcs.{joins-test, inputs-are, enabled-is}
+use Rattle.rows.proofs.Arcs.{accepted-laid, joins-test, inputs-are}
+use Rattle.firing.proofs.Arcs.{enabled-is}
 use Rattle.firing.proofs.Taken.{taken-is}
 
 -- Whoever is firable is enabled.
@@ -61,7 +62,7 @@ module _ {bs : List ℕ} {n : ℕ} {rows : List ℕ} {w s : List (List ℕ)} {he
   -- A place with an input arc is below n.
   pub near : (p t : ℕ) → p < 128 → t < 64 → bit (inputs rows p) t ≡ true → p < n
   near p t h l e =
-      let r = some-elim (tb .records) (λ r. input tb r && joins tb p t r) (sym (inputs-are net p t h l) ∙ e) in
+      let r = some-elim (tb .records) (λ r. input tb r && joins tb p t r) (sym (inputs-are (accepted-laid net) p t h l) ∙ e) in
       let place : tb .one (r .0) ≡ p = joins-test tb p t (r .0) (and-right (input tb (r .0)) _ (r .2)) .0 in
       omega (arith, net .below (r .0) (r .1))
 

@@ -18,7 +18,7 @@ use Rattle.meaning.proofs.Sound.{sum-one}
 use Rattle.rows.specs.declared.Declared.{Declared}
 use Rattle.rows.specs.Rows.{takers, cell}
 use Rattle.rows.specs.Filed.{input, latest, Net-of}
-use Rattle.firing.proofs.Arcs.{latest-is, ranges, once, takers-are}
+use Rattle.rows.proofs.Arcs.{latest-is, accepted-laid, ranges, once, takers-are}
 
 -- A sum of sums, taken the other way.
 sum-swap : (m n : ℕ) (h : ℕ → ℕ → ℕ) → sum m (λ t. sum n (λ r. h r t)) ≡ sum n (λ r. sum m (h r))
@@ -98,7 +98,7 @@ module _ {bs : List ℕ} {n : ℕ} {rows : List ℕ} {w s : List (List ℕ)} {he
 
   who-takes : (t : ℕ) → t < 64 → bit (takers rows p) t ≡ some (tb .records) (λ r. takes r && eqb (tb .two r) t)
   who-takes t l =
-      takers-are net p t h l ∙ some-same (tb .records) _ _ (λ r k. sym (and-assoc (basic tb r) (eqb (tb .one r) p) (eqb (tb .two r) t)))
+      takers-are (accepted-laid net) p t h l ∙ some-same (tb .records) _ _ (λ r k. sym (and-assoc (basic tb r) (eqb (tb .one r) p) (eqb (tb .two r) t)))
 
   weighs : (t : ℕ) → t < 64 → cell w p t ≡ latest (tb .records) (λ r. asks r && eqb (tb .two r) t) (tb .four)
   weighs t l =
@@ -116,7 +116,7 @@ module _ {bs : List ℕ} {n : ℕ} {rows : List ℕ} {w s : List (List ℕ)} {he
       sum-same 64 _ _ (λ t l. rw (who-takes t l, weighs t l))
       ∙ by-record (tb .records) takes asks (tb .two) (tb .four) F
       (λ r e. and-true (basic-input r (and-left (basic tb r) _ e)) (and-right (basic tb r) _ e))
-      (λ r l e. ranges net r l (eqb-true (tb .kind r) 3 (and-left (is tb 3 r) _ (and-left (basic tb r) _ e))) .1)
+      (λ r l e. ranges (accepted-laid net) r l (eqb-true (tb .kind r) 3 (and-left (is tb 3 r) _ (and-left (basic tb r) _ e))) .1)
       (λ r q l m a b same.
-      once net r q l m (and-left (input tb r) _ a) (and-left (input tb q) _ b)
+      once (accepted-laid net) r q l m (and-left (input tb r) _ a) (and-left (input tb q) _ b)
       (eqb-true (tb .one r) p (and-right (input tb r) _ a) ∙ sym (eqb-true (tb .one q) p (and-right (input tb q) _ b))) same)

@@ -1,6 +1,4 @@
 -- Tests as facts: each law turns a Bool into the statement it decides, by cases on the Bool.
--- Every law stands on definitions that have passed the worked nets: the nets are checked first.
-use Rattle.meaning.specs.Bench
 use mathlib.Core.Bool.{Bool, true, false, _&&_, _||_}
 use mathlib.Core.Path.{_≡_, refl, sym, _∙_}
 use mathlib.Core.Logic.{_⊎_, inl, inr}

@@ -1,5 +1,7 @@
 -- What the laws of a cycle use of an accepted table, as facts about its records. `accepted-well` (Accepted.antt) shows that every accepted
 -- table has them.
+-- The rules said twice are checked first: every law of a cycle stands on definitions that agree with them.
+use Rattle.meaning.proofs.Rising
 use mathlib.Core.Bool.{true, false}
 use mathlib.Core.Logic.{_≢_}
 use mathlib.Core.Path.{_≡_}

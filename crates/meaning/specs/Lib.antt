@@ -16,4 +16,3 @@ pub mod Finished
 pub mod Promise
 pub mod Source
 pub mod Nets
-pub mod Bench

@@ -2,3 +2,4 @@
 pub mod Empty
 pub mod Shown
 pub mod Few
+pub mod Arcs

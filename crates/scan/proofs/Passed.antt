@@ -131,6 +131,7 @@ module _ {tb : Table} {r : ℕ} {rows : List ℕ} {w s : List (List ℕ)} {heads
         number-is = rw (lt-ltb r (tb .records) here) (sym e);
         filed = λ z. absurd (n z);
         paired = λ z. absurd (n z);
+        lengths = λ z. absurd (n z);
       }
 
   pub ends-own : r < tb .records → (f : ℕ) → f ≡ fault-of x → ¬ (f ≡ 0) → {rows′ : List ℕ} {w′ s′ : List (List ℕ)} {heads′ posts′ times′ : List ℕ}
@@ -164,4 +165,5 @@ ends-all {tb} {r} {n} {rows} {w} {s} {heads} {posts} {times} {known} passed e co
       number-is = rw (le-ltb n (tb .records) (omega (arith, count)));
       filed = λ z. subst (λ (k : ℕ). Filed tb k rows w s heads posts times known) e (passed .filed);
       paired = λ z. subst (λ (k : ℕ). Paired tb k rows) e (passed .paired);
+      lengths = λ z. (passed .heads-size, passed .times-size);
     }

@@ -114,3 +114,4 @@ pub record Scanned (tb : Table) (p : Pass) (rows : List ℕ) (w s : List (List �
   pub number-is : p .number ≡ cond (ltb (p .at) (tb .records)) (fault tb (p .at)) 0
   pub filed : p .number ≡ 0 → Filed tb (tb .records) rows w s heads posts times (p .known)
   pub paired : p .number ≡ 0 → Paired tb (tb .records) rows
+  pub lengths : p .number ≡ 0 → (length heads ≡ 64) × (length times ≡ 192)

@@ -22,7 +22,7 @@ fn set(record: &[u8], k: usize) {
     if record.len() == 24 {
         if k < 3 {
             io::write_all(STDOUT_FILENO, b" ");
-            io::print_hex(STDOUT_FILENO, words::word(record, k), 16);
+            io::print_hex(STDOUT_FILENO, numbers::eight(record, 8 * k), 16);
         }
     }
 }

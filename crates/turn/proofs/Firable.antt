@@ -26,7 +26,7 @@ use Rattle.rows.specs.Rows.{looks, wanted-true, limit-of, first-of, last-of}
 use Rattle.rows.specs.Filed.{kept-in, joins, Net-of}
 use Rattle.rows.proofs.Shown.{two-low}
 use Rattle.edge.specs.Edges.{as-asked, Firable-asks, Raises, Ready, Able}
-use Rattle.firing.proofs.Arcs.{joins-test}
+use Rattle.rows.proofs.Arcs.{joins-test}
 use Rattle.turn.specs.declared.Net.{Net}
 use Rattle.turn.specs.Turn.{Laid, held}
 use Rattle.turn.proofs.Rows.{no-bit}

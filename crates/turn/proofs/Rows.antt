@@ -28,7 +28,7 @@ use Rattle.rows.specs.Rows.{row, inputs, takers, actions, functions, cell}
 use Rattle.rows.specs.Filed.{input, kept-in, joins, Net-of}
 use Rattle.rows.proofs.Shown.{two-low, transition-low}
 use Rattle.levels.specs.Levels.{lacks}
-use Rattle.firing.proofs.Arcs.{joins-test, input-test, ranges, cell-of, takers-are}
+use Rattle.rows.proofs.Arcs.{accepted-laid, joins-test, input-test, ranges, cell-of, takers-are}
 
 -- Where nobody from n on passes, those below n tell all.
 pub some-all : (n m : ℕ) (f : ℕ → Bool) → n ≤ m → ((p : ℕ) → n ≤ p → p < m → f p ≡ false) → some n f ≡ some m f
@@ -154,8 +154,8 @@ module _ {bs : List ℕ} {n : ℕ} {rows : List ℕ} {w s : List (List ℕ)} {he
           → (a && b && g (tb .one r))
           ≡ ((basic tb r || test tb r) && b && (ltb 0 (withdrawn tb F (tb .one r)) && ltb (m (tb .one r) - withdrawn tb F (tb .one r)) (tb .four r)))
       arc r h true true x y =
-          let c = cell-of net r h x in
-          let low = ranges net r h (input-test tb r x .0) in
+          let c = cell-of (accepted-laid net) r h x in
+          let low = ranges (accepted-laid net) r h (input-test tb r x .0) in
           let two = eqb-true (tb .two r) t y in
           rw (← taken-is (tb .one r) (low .0), ← two, c .0, c .1, ← asking r, x, and-true (not (eqb (tb .sort r) 2)))
           (front (ltb 0 (taken (tb .one r))) (not (eqb (tb .sort r) 2)) (ltb (m (tb .one r) - taken (tb .one r)) (tb .four r)))
@@ -165,13 +165,13 @@ module _ {bs : List ℕ} {n : ℕ} {rows : List ℕ} {w s : List (List ℕ)} {he
   -- Whoever takes from a place takes something.
   pub weighty : (p t : ℕ) → p < 128 → t < 64 → bit (takers rows p) t ≡ true → 1 ≤ cell w p t
   weighty p t h l e =
-      let k = some-elim (tb .records) (λ r. basic tb r && joins tb p t r) (sym (takers-are net p t h l) ∙ e) in
+      let k = some-elim (tb .records) (λ r. basic tb r && joins tb p t r) (sym (takers-are (accepted-laid net) p t h l) ∙ e) in
       let arc = and-left (basic tb (k .0)) (joins tb p t (k .0)) (k .2) in
       let j = joins-test tb p t (k .0) (and-right (basic tb (k .0)) (joins tb p t (k .0)) (k .2)) in
       let kind = eqb-true (tb .kind (k .0)) 3 (and-left (is tb 3 (k .0)) _ arc) in
       let sort = eqb-true (tb .sort (k .0)) 0 (and-right (is tb 3 (k .0)) _ arc) in
       let weight : cell w p t ≡ tb .four (k .0) =
-      ap₂ (cell w) (sym (j .0)) (sym (j .1)) ∙ cell-of net (k .0) (k .1) (both (eq-eqb (tb .kind (k .0)) 3 kind) (lt-ltb (tb .sort (k .0)) 3 (omega (arith, sort)))) .0 in
+      ap₂ (cell w) (sym (j .0)) (sym (j .1)) ∙ cell-of (accepted-laid net) (k .0) (k .1) (both (eq-eqb (tb .kind (k .0)) 3 kind) (lt-ltb (tb .sort (k .0)) 3 (omega (arith, sort)))) .0 in
       omega (arith, weight, accepted-well bs (net .sound) .arc-weight (k .0) (k .1) kind)
 
 -- At most 1,024 records, and no weight above 65,535.

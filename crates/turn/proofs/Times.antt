@@ -24,7 +24,7 @@ use Rattle.meaning.proofs.Accepted.{accepted-well}
 use Rattle.rows.specs.Rows.{first-of, limit-of, last-of}
 use Rattle.rows.specs.Filed.{latest, declares, limit-in, last-in, Timed}
 use Rattle.edge.specs.Edges.{raised, in-span, next-count}
-use Rattle.firing.proofs.Arcs.{latest-is}
+use Rattle.rows.proofs.Arcs.{latest-is}
 
 -- The last of what passes, of a number made of three columns, is made of the last of each; 0 is made of zeros.
 latest-made : (n : ℕ) (p : ℕ → Bool) (F : ℕ → ℕ → ℕ → ℕ) (f g h : ℕ → ℕ) → F 0 0 0 ≡ 0

@@ -25,7 +25,8 @@ use Rattle.rows.specs.Rows.{inputs, takers, actions, functions, cell, limit-of}
 use Rattle.rows.specs.Filed.{Sizes}
 use Rattle.levels.specs.Levels.{lacks, Levels}
 use Rattle.firing.specs.Fired.{Fires}
-use Rattle.firing.proofs.Arcs.{ranges, enabled-is}
+use Rattle.rows.proofs.Arcs.{accepted-laid, ranges}
+use Rattle.firing.proofs.Arcs.{enabled-is}
 use Rattle.firing.proofs.Taken.{taken-is}
 use Rattle.firing.proofs.Meaning.{near, fires-is}
 use Rattle.marking.specs.declared.Moved.{Moved}
@@ -69,7 +70,7 @@ module _ {bs : List ℕ} {net : Net} {rows arcs times : List ℕ} {w s : List (L
   post-range r h e = eqb-true (tb .kind r) 3 (and-left (is tb 3 r) _ e)
 
   post-low : (r : ℕ) → r < tb .records → post tb r ≡ true → tb .two r < 64
-  post-low r h e = ranges (laid .net-of) r h (post-range r h e) .1
+  post-low r h e = ranges (accepted-laid (laid .net-of)) r h (post-range r h e) .1
 
   pub put-most : (f p : ℕ) → put-at f heads posts p ≤ 67107840
   put-most f p =
@@ -92,7 +93,7 @@ module _ {bs : List ℕ} {net : Net} {rows arcs times : List ℕ} {w s : List (L
   -- What tallying asks for of the chains.
   pub chains : (c : Chains posts) × ((t : ℕ) → t < 64 → Leads (c .arc) (getD heads t 0))
   chains =
-      chained (laid .net-of .filed .posted) (laid .sizes .posts-are) (λ r h e. ranges (laid .net-of) r h (post-range r h e) .0)
+      chained (laid .net-of .filed .posted) (laid .sizes .posts-are) (λ r h e. ranges (accepted-laid (laid .net-of)) r h (post-range r h e) .0)
 
   -- A transition is timed exactly if its counter rises.
   pub limit-timing : (t : ℕ) → t < 64 → not (eqb (limit-of times t) 0) ≡ not (eqb (timing tb t) 0)

@@ -1,7 +1,7 @@
--- Wrong engines of run: on a named input run's promise refuses what such an engine answers or leaves. Some are an edit of the code's own shape too
--- (`residual-of-basic-arcs`, `reset-by-new-marking`, `full-before-withdrawals`, `keeps-the-refused-tokens`, `keeps-the-refused-counters`), the others are not.
+-- Wrong engines of run: on a named input run's promise refuses what such an engine answers or leaves. Some are an edit of the code too
+-- (`residual-of-basic-arcs`, `reset-by-new-marking`, `fires-nothing`), the others are not.
 use mathlib.Core.List.{List, _++_}
-use mathlib.Core.Path.{_≡_, refl, ap}
+use mathlib.Core.Path.{_≡_, refl, ap, _∙_}
 use Prim.Native.Nat.{ℕ, _*_}
 use native.Mathlib.Omega.{arith}
 use lib.ListN.{replicate, getD}
@@ -53,8 +53,12 @@ leaves : (getD (run net7-ranked (begun net7-ranked) (quiet 1) (sevens 24) .repor
     × (run two-full (begun two-full) (quiet 1) (sevens 24) .answer .at ≡ 0)
     × (run net9-taken (begun net9-taken) (quiet 1) (sevens 24) .answer .number ≡ 0)
     × (getD (run (net6 1) (begun (net6 1)) (quiet 2) (sevens 48) .report) 24 0 ≡ 1)
+    × (getD (run N (begun N) (quiet 1) (sevens 24) .image) 0 0 ≡ 0)
+    × (run N (begun N) (quiet 1) (sevens 24) .answer .cycles ≡ 1)
+    × (run N (begun N) (quiet 1) (sevens 24) .answer .number ≡ 0)
+    × (getD (run N (begun N) (quiet 1) (sevens 24) .report) 0 0 ≡ 1)
 unfolding some every sum first members within number bytes bit bits cut kinds place transition total ceiling table decide through above bad-length bad-kind interval bad-field same twice fault faulty names-place names-transition names-second unknown empty arc-at-place arc-at-transition isolated circle some-two conflict complementary inhibited settled unsettled clashes table-checks state join image image-bytes fresh wrong-place most most-order wrong-transition wrong state-checks stops enabled active risen counted falling as-wanted in-time firable withdrawn added residual rule rounds fired marked executed starved reset rising record-of cycle overfull words-of word-checks run-checks trace run N N-unsettled net6 net7 net9 put-back two-full
-leaves = (refl, refl, refl, refl, refl, refl, refl, refl, refl, refl, refl)
+leaves = (refl, refl, refl, refl, refl, refl, refl, refl, refl, refl, refl, refl, refl, refl, refl)
 
 -- Byte i of the report, and of the image, that the statement allows.
 report-byte : {bs img ws report img′ report′ : List ℕ} {a : Answer} (i : ℕ) → Ran bs img ws report a img′ report′
@@ -112,3 +116,19 @@ module _ (a : Answer) (img report : List ℕ) where
   -- Judges a reset by the new marking: t0 takes the token of net 6 and puts it back, so t1 is never reset, and fires in cycle 2.
   pub reset-by-new-marking : getD report 24 0 ≡ 3 → ¬ Ran (net6 1) (begun (net6 1)) (quiet 2) (sevens 48) a img report
   reset-by-new-marking e r = omega (arith, e, report-byte 24 r, leaves .10)
+
+  -- Leaves the image untouched: place 0 of net N keeps its token.
+  pub image-untouched : getD img 0 0 ≡ 1 → ¬ Ran N (begun N) (quiet 1) (sevens 24) a img report
+  image-untouched e r = omega (arith, e, image-byte 0 r, leaves .11)
+
+  -- Invents the cycles done.
+  pub cycles-invented : a .cycles ≡ 512 → ¬ Ran N (begun N) (quiet 1) (sevens 24) a img report
+  cycles-invented e r = omega (arith, e, ap (λ (b : Answer). b .cycles) (r .answer-is), leaves .12)
+
+  -- Refuses every table: net N is well defined, its image fits and its word can be done.
+  pub refuses-all : ¬ (a .number ≡ 0) → ¬ Ran N (begun N) (quiet 1) (sevens 24) a img report
+  refuses-all e r = e (ap (λ (b : Answer). b .number) (r .answer-is) ∙ leaves .13)
+
+  -- Fires nothing.
+  pub fires-nothing : getD report 0 0 ≡ 0 → ¬ Ran N (begun N) (quiet 1) (sevens 24) a img report
+  fires-nothing e r = omega (arith, e, report-byte 0 r, leaves .14)

@@ -1,22 +1,45 @@
--- `engine::run` meets its contract: the length first, then what is left to be done.
-use mathlib.Core.Path.{sym}
+-- The length first, then what is left to be done with rows that are enough.
+use mathlib.Core.Path.{sym, _∙_}
 use native.Mathlib.Omega.{arith}
 use borrow.Author.Needs.{needs}
-use Rattle.engine.proofs.Stages.{length-odd, length-long, length-right, answer-1}
+use Rattle.judge.proofs.Stages.{answer-1}
 use Rattle.engine.proofs.Runs.{refused-by-table}
 use Rattle.engine.proofs.run.Statement.{statement}
 use Rattle.engine.proofs.run.Tie as tie
 
-returns : tie.Need-returns
-returns c = refused-by-table _ _ _ _ (sym (answer-1 _ (length-odd _ (c .if1 .taken)))) (λ z. absurd (omega arith))
+bad : tie.Need-returns
+bad c = refused-by-table _ _ _ _ (sym (answer-1 _ (sym (c .before .bad-length .ensures) ∙ c .if1 .taken))) (λ z. omega (arith, z))
 
-returns-2 : tie.Need-returns-2
-returns-2 c = refused-by-table _ _ _ _ (sym (answer-1 _ (length-long _ (c .if2 .taken)))) (λ z. absurd (omega arith))
+small-asks : tie.Need-run-small-requires
+small-asks c κs =
+    let few = c .before .before .before .is-small .ensures (c .before .before .if2 .taken) in
+    let n = c .before .before .before .before in
+    (sym (n .before .before .bad-length .ensures) ∙ n .before .if1 .left, (n .numbers .ensures .0, few .0, few .1))
 
-run-requires : tie.Need-run-requires
-run-requires c κs =
-    let right = c .before .before in
-    length-right _ (right .before .if1 .left) (right .if2 .left)
+small : tie.Need-returns-2
+small c = c .before .before .before .before .run-small .ensures
+
+large-asks : tie.Need-run-large-requires
+large-asks c κs =
+    let n = c .before .before .before .before in
+    (sym (n .before .before .bad-length .ensures) ∙ n .before .if1 .left, n .numbers .ensures)
+
+large : tie.Need-returns-3
+large c = c .before .before .before .before .run-large .ensures
 
 pub run-spec : {M : Type 1} → statement M
-run-spec = tie.close (tie.spec returns returns-2 run-requires (λ c. search needs) (λ c. search needs) (λ c. search needs))
+run-spec =
+    tie.close
+    (tie.spec
+    (λ c κs. search needs)
+    bad
+    (λ c κs. search needs)
+    (λ c κs. search needs)
+    small-asks
+    (λ c. search needs)
+    (λ c. search needs)
+    small
+    large-asks
+    (λ c. search needs)
+    (λ c. search needs)
+    large)

@@ -21,8 +21,8 @@ returns-2 c =
     let left = started-short _ _ (ap (λ (a : Answer). a .number) (sym answer) ∙ c .before .if1 .left) (c .if2 .taken) in
     record { answer-is = sym (left .0); image-is = sym (left .1) }
 
-write-fresh-requires : tie.Need-write-fresh-requires
-write-fresh-requires c κs =
+fresh-requires : tie.Need-fresh-requires
+fresh-requires c κs =
     let answer = c .before .before .before .before .check .ensures .answer-is in
     (c .before .if2 .left, accepted-if _ (ap (λ (a : Answer). a .number) (sym answer) ∙ c .before .before .if1 .left))
 
@@ -36,10 +36,10 @@ returns-3 c =
     let left = started _ _ zero-is (c .before .before .before .before .if2 .left) in
     record {
       answer-is = answer ∙ accepted-if _ zero-is ∙ sym (left .0);
-      image-is = c .before .before .write-fresh .ensures ∙ sym (left .1);
+      image-is = c .before .before .fresh .ensures ∙ sym (left .1);
     }
 
 pub start-spec : {M : Type 1} → statement M
 start-spec =
     tie.close
-    (tie.spec check-requires returns returns-2 write-fresh-requires same-length returns-3)
+    (tie.spec check-requires returns returns-2 fresh-requires same-length returns-3)

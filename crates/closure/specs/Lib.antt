@@ -1,0 +1,2 @@
+-- What closing the priorities means.
+pub mod Closure

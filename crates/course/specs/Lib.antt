@@ -1,2 +1,0 @@
--- What the cycles of a call come to.
-pub mod Course

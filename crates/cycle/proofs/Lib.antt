@@ -1,3 +1,0 @@
--- One cycle over the rows is one cycle of the table.
-pub mod Facts
-pub mod Whole

@@ -1,2 +1,0 @@
--- What one cycle over rows comes to.
-pub mod Step

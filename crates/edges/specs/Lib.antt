@@ -1,2 +1,0 @@
--- What the two edges make of counters and conditions.
-pub mod Edges

@@ -1,3 +1,0 @@
--- When the arrays enable a transition.
-pub mod Inputs
-pub mod Held

@@ -1,0 +1,4 @@
+-- The laws of the stages.
+pub mod Stages
+pub mod Answers
+pub mod Ranks

@@ -1,0 +1,2 @@
+-- What the stages of a table come to.
+pub mod Judged

@@ -1,2 +1,0 @@
--- When a pair is settled, by the rows of a net.
-pub mod Settled

@@ -1,2 +1,0 @@
--- What closing a relation means.
-pub mod Closed

@@ -1,2 +1,0 @@
--- What the marking after a step is.
-pub mod Settle

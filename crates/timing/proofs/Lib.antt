@@ -1,2 +1,0 @@
--- The laws that carry the timings to the meaning.
-pub mod Carry

@@ -1,2 +1,0 @@
--- What the timings hold.
-pub mod Times

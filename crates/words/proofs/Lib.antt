@@ -1,2 +1,0 @@
--- The words of a list of bytes, by index.
-pub mod Words

@@ -1,0 +1,2 @@
+-- The worked nets.
+pub mod Bench

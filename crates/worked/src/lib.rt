@@ -1,0 +1,1 @@
+// The page's worked nets, computed by the definitions of the meaning (proofs/). There is no code here.
