@@ -1,5 +1,5 @@
--- Demands 1, 2 and 3 of the code: what a call promises (its `ensures`) is what the meaning defines, so what is proved of the meaning holds of the
--- answer and of every byte that the call leaves to its caller.
+-- Demands 1, 2 and 3 of the code: what a call promises (its `ensures`) is what the meaning defines, so what is proved
+-- of the meaning holds of the answer and of every byte that the call leaves to its caller.
 use mathlib.Core.List.{List, [], _∷_, _++_}
 use mathlib.Core.Logic.{_↔_, _≢_, _⊎_}
 use mathlib.Core.Path.{_≡_, sym, ap, _∙_}
@@ -30,7 +30,8 @@ number-of a = a .number
 -- CHECK
 
 module _ (bs : List ℕ) (a : Answer) (promised : Checked bs a) where
-  -- A table is refused exactly by the first number that the page's answer table gives it, and accepted exactly if none is given.
+  -- A table is refused exactly by the first number that the page's answer table gives it, and accepted exactly if
+  -- none is given.
   pub check-is-refused : (n w : ℕ) → 0 < n → (a ≡ refused n w) ↔ First (Table-says bs) n w
   check-is-refused n w l = rw (promised .answer-is) (check-refuses bs n w l)
 
@@ -70,12 +71,14 @@ module _ (bs img : List ℕ) (a : Answer) (img′ : List ℕ) (promised : Starte
     start-fits = rw written (fresh-fits bs (start-checked bs img (sym (ap number-of (promised .answer-is)) ∙ z)))
 
     -- So run never answers 10 to it.
-    pub run-after-start : (ws report : List ℕ) (b : Answer) (img″ report′ : List ℕ) → Ran bs img′ ws report b img″ report′ → b .number ≢ 10
+    pub run-after-start : (ws report : List ℕ) (b : Answer) (img″ report′ : List ℕ)
+        → Ran bs img′ ws report b img″ report′ → b .number ≢ 10
     run-after-start ws report b img″ report′ ran e = never-10 bs img′ start-fits ws report (sym (ap number-of (ran .answer-is)) ∙ e)
 
 -- RUN
 
-module _ (bs img ws report : List ℕ) (a : Answer) (img′ report′ : List ℕ) (promised : Ran bs img ws report a img′ report′) where
+module _ (bs img ws report : List ℕ) (a : Answer) (img′ report′ : List ℕ)
+    (promised : Ran bs img ws report a img′ report′) where
   -- It answers 0 to 13.
   pub run-answers : a .number ≤ 13
   run-answers = rw (promised .answer-is) (run-number bs img ws report)
@@ -89,8 +92,9 @@ module _ (bs img ws report : List ℕ) (a : Answer) (img′ report′ : List ℕ
       let left = refused-leaves bs img ws report n w l h (sym (promised .answer-is) ∙ e) in
       (promised .image-is ∙ left .0, promised .report-is ∙ left .1)
 
-  -- Refused at a cycle, exactly if nothing of 1 to 12 is said, c cycles of the meaning can be done, and the next would burst at p and nowhere below.
-  -- Then the image is the one that the finished cycles reached, and the report has their records and behind them what it had.
+  -- Refused at a cycle, exactly if nothing of 1 to 12 is said, c cycles of the meaning can be done, and the next
+  -- would burst at p and nowhere below. Then the image is the one that the finished cycles reached, and the report
+  -- has their records and behind them what it had.
   pub run-is-full : (p c : ℕ)
       → (a ≡ record { number = 13; at = p; cycles = c })
       ↔ (((n w : ℕ) → ¬ Run-says bs img ws report n w)
@@ -118,8 +122,8 @@ module _ (bs img ws report : List ℕ) (a : Answer) (img′ report′ : List ℕ
         rw count at (promised .report-is ∙ left .8 .2),
       )
 
-  -- Demand 2: accepted, exactly if nothing of 1 to 12 is said and every word's cycle can be done; then these are the cycles done, one a word, and image
-  -- and report are those that they leave.
+  -- Demand 2: accepted, exactly if nothing of 1 to 12 is said and every word's cycle can be done; then these are the
+  -- cycles done, one a word, and image and report are those that they leave.
   pub run-is-accepted : (c : ℕ)
       → (a ≡ accepted c)
       ↔ (((n w : ℕ) → ¬ Run-says bs img ws report n w)
@@ -138,8 +142,9 @@ module _ (bs img ws report : List ℕ) (a : Answer) (img′ report′ : List ℕ
         (left .1, left .2, rw count at (left .3), promised .image-is ∙ left .4 .1, rw count at (promised .report-is ∙ left .4 .2)),
       )
 
-  -- Demands 2 and 3 of every finished cycle, however the run ended: its word and image, its sets read back from the report, its new state by the rules,
-  -- definition 6's one set, and that the members fired one by one in any order end in the marking that it left.
+  -- Demands 2 and 3 of every finished cycle, however the run ended: its word and image, its sets read back from the
+  -- report, its new state by the rules, definition 6's one set, and that the members fired one by one in any order
+  -- end in the marking that it left.
   pub every-finished-cycle : (k : ℕ) → 1 ≤ k → k ≤ a .cycles → Finished bs img ws report′ k
   every-finished-cycle k l h =
       rw (promised .report-is) (finished bs img ws report k l (rw (ap (λ (b : Answer). b .cycles) (promised .answer-is)) at h))
@@ -157,23 +162,30 @@ module _ (bs img ws report : List ℕ) (a : Answer) (img′ report′ : List ℕ
     run-leaves-a-fitting-image =
         rw (promised .image-is) (run-fits bs img ws report (went bs img ws report (rw (promised .answer-is) at end)))
 
-    pub run-after-run : (vs room : List ℕ) (b : Answer) (img″ report″ : List ℕ) → Ran bs img′ vs room b img″ report″ → b .number ≢ 10
+    pub run-after-run : (vs room : List ℕ) (b : Answer) (img″ report″ : List ℕ) → Ran bs img′ vs room b img″ report″
+        → b .number ≢ 10
     run-after-run vs room b img″ report″ ran e =
         never-10 bs img′ run-leaves-a-fitting-image vs room (sym (ap number-of (ran .answer-is)) ∙ e)
 
 -- No words: no cycle is done and nothing changes; accepted, if nothing of 1 to 12 is said.
-pub no-words-change-nothing : (bs img report : List ℕ) (a : Answer) (img′ report′ : List ℕ) → Ran bs img [] report a img′ report′
-    → (((n w : ℕ) → ¬ Run-says bs img [] report n w) → a ≡ accepted 0) × (a .cycles ≡ 0) × (img′ ≡ img) × (report′ ≡ report)
+pub no-words-change-nothing : (bs img report : List ℕ) (a : Answer) (img′ report′ : List ℕ)
+    → Ran bs img [] report a img′ report′
+    → (((n w : ℕ) → ¬ Run-says bs img [] report n w) → a ≡ accepted 0) × (a .cycles ≡ 0) × (img′ ≡ img)
+    × (report′ ≡ report)
 no-words-change-nothing bs img report a img′ report′ ran = rw (ran .answer-is, ran .image-is, ran .report-is) (nothing-to-do bs img report)
 
--- And for every accepted table, state and word: the marking at the start pays for all, each finds what it takes, and every order ends in one marking.
-pub every-cycle-is-safe : (bs : List ℕ) (a : Answer) → Checked bs a → a ≡ accepted 0 → (img : List ℕ) (word : ℕ) → Safe (table bs) img word
+-- And for every accepted table, state and word: the marking at the start pays for all, each finds what it takes, and
+-- every order ends in one marking.
+pub every-cycle-is-safe : (bs : List ℕ) (a : Answer) → Checked bs a → a ≡ accepted 0 → (img : List ℕ) (word : ℕ)
+    → Safe (table bs) img word
 every-cycle-is-safe bs a promised e = demand-3 bs (sym (promised .answer-is) ∙ e)
 
 -- LOOKUP
 
-module _ (report : List ℕ) (at : ℕ × ℕ) (cycle : ℕ) (part : List ℕ) (part-at : ℕ × ℕ) (promised : Looked-up report at cycle part part-at) where
-  -- A cycle that the report holds whole is handed back as its 24 bytes, where they stand; for any other the part is empty.
+module _ (report : List ℕ) (at : ℕ × ℕ) (cycle : ℕ) (part : List ℕ) (part-at : ℕ
+    × ℕ) (promised : Looked-up report at cycle part part-at) where
+  -- A cycle that the report holds whole is handed back as its 24 bytes, where they stand; for any other the part is
+  -- empty.
   pub lookup-hands-back : 1 ≤ cycle → 24 * cycle ≤ length report
       → (part ≡ take 24 (drop (24 * (cycle - 1)) report)) × (length part ≡ 24)
       × (part-at .0 ≡ at .0) × (part-at .1 ≡ at .1 + 24 * (cycle - 1))
@@ -188,13 +200,16 @@ module _ (report : List ℕ) (at : ℕ × ℕ) (cycle : ℕ) (part : List ℕ) (
   pub lookup-is-empty : (cycle < 1) ⊎ (length report < 24 * cycle) → part ≡ []
   lookup-is-empty n = promised .part-is ∙ lookup-none report cycle n .0
 
--- Of the report that a run left, lookup of each cycle done hands back that cycle's record: its sets make the turn that its word and the
--- image before it come to.
-pub lookup-after-run : (bs img ws report : List ℕ) (a : Answer) (img′ report′ : List ℕ) → Ran bs img ws report a img′ report′
-    → (at : ℕ × ℕ) (k : ℕ) (part : List ℕ) (part-at : ℕ × ℕ) → Looked-up report′ at k part part-at → 1 ≤ k → k ≤ a .cycles
+-- Of the report that a run left, lookup of each cycle done hands back that cycle's record: its sets make the turn
+-- that its word and the image before it come to.
+pub lookup-after-run : (bs img ws report : List ℕ) (a : Answer) (img′ report′ : List ℕ)
+    → Ran bs img ws report a img′ report′
+    → (at : ℕ × ℕ) (k : ℕ) (part : List ℕ) (part-at : ℕ × ℕ) → Looked-up report′ at k part part-at → 1 ≤ k
+    → k ≤ a .cycles
     → (word : ℕ) × (before : List ℕ) × (next : State) × Word-spelt ws (k - 1) word
     × Reaches (table bs) (words ws) img (k - 1) before
-    × Turn (table bs) (state (image before)) word (bit (fired-in part)) (bit (actions-in part)) (bit (functions-in part)) next
+    × Turn (table bs) (state (image before)) word (bit (fired-in part)) (bit (actions-in part))
+    (bit (functions-in part)) next
 lookup-after-run bs img ws report a img′ report′ ran at k part part-at found l h =
     let cycle = every-finished-cycle bs img ws report a img′ report′ ran k l h in
     (cycle .word, cycle .before, cycle .next, cycle .word-is, cycle .before-is, rw (found .part-is) (cycle .turn))

@@ -42,7 +42,8 @@ empty-rows k = replicate k (replicate 64 0)
 
 module _ (bs : List ℕ) {n : ℕ} (roomy : Roomy (table bs) n) where
   pub small-room : n ≤ 32 → length bs ≤ 2048
-      → Judge-asks (table bs) n (replicate 256 0) (empty-rows 32) (empty-rows 32) (replicate 64 0) (replicate 768 0) (replicate 192 0)
+      → Judge-asks (table bs) n (replicate 256 0) (empty-rows 32) (empty-rows 32) (replicate 64 0) (replicate 768 0)
+      (replicate 192 0)
   unfolding table
   small-room few short =
       record {
@@ -63,7 +64,8 @@ module _ (bs : List ℕ) {n : ℕ} (roomy : Roomy (table bs) n) where
       }
 
   pub large-room : n ≤ 128 → bad-length bs ≡ false
-      → Judge-asks (table bs) n (replicate 1024 0) (empty-rows 128) (empty-rows 128) (replicate 64 0) (replicate 3072 0) (replicate 192 0)
+      → Judge-asks (table bs) n (replicate 1024 0) (empty-rows 128) (empty-rows 128) (replicate 64 0)
+      (replicate 3072 0) (replicate 192 0)
   unfolding table
   large-room few right =
       record {
@@ -86,7 +88,8 @@ module _ (bs : List ℕ) {n : ℕ} (roomy : Roomy (table bs) n) where
 -- The rows of a table that is accepted, so many as they were made: eights of numbers, and post arcs of so many records.
 module _ {bs : List ℕ} {n : ℕ} {v : Verdict} {rows : List ℕ} {w s : List (List ℕ)} {heads posts times : List ℕ}
     (judges : Judges bs n v rows w s heads posts times) where
-  pub goes-on : (eights : ℕ) → n ≤ 8 * eights → 8 * eights ≤ 128 → length rows ≡ 8 * (8 * eights) → length w ≡ 8 * eights
+  pub goes-on : (eights : ℕ) → n ≤ 8 * eights → 8 * eights ≤ 128 → length rows ≡ 8 * (8 * eights)
+      → length w ≡ 8 * eights
       → length s ≡ 8 * eights → 3 * table bs .records ≤ length posts → v .number ≡ 0
       → Proceed-of bs n (v .known) rows times w s heads posts
   goes-on eights enough few rows-are weights-are sorts-are posts-are e =

@@ -22,7 +22,7 @@ use Rattle.cycles.specs.declared.Told.{Told}
 use Rattle.cycles.specs.Cycles.{Ready, Play-of, Ends}
 use Rattle.engine.specs.Said.{lent-checks, Proceed-of}
 use Rattle.engine.proofs.Starts.{refused-too}
-use Rattle.engine.proofs.Lent.{lent-same, long-is, fits-is, few-is, room-is}
+use Rattle.engine.proofs.Beside.{lent-same, long-is, fits-is, few-is, room-is}
 
 module _ {bs : List ℕ} {n : ℕ} {known : Declared} {rows times : List ℕ} {w s : List (List ℕ)} {heads posts : List ℕ}
     (of : Proceed-of bs n known rows times w s heads posts) where
@@ -34,7 +34,8 @@ module _ {bs : List ℕ} {n : ℕ} {known : Declared} {rows times : List ℕ} {w
   known-is t h = of .net-of .filed .known-are .transitions t h
 
   -- With what is lent in order, the cycles may be played.
-  pub plays : {img ws report : List ℕ} → Ready bs img ws report → Play-of bs n (known .transitions) img ws report rows times w s heads posts
+  pub plays : {img ws report : List ℕ} → Ready bs img ws report
+      → Play-of bs n (known .transitions) img ws report rows times w s heads posts
   plays ready =
       record {
         declared = known;
@@ -102,4 +103,9 @@ module _ (bs img ws report : List ℕ) where
           → Ran bs img ws report (record { number = told .number; at = told .at; cycles = told .cycles }) img′ report′
       ran-through told img′ report′ ends =
           let goes = run-goes-on bs img ws report (ap (λ (a : Answer). a .number) (sym lent-decides) ∙ none) in
-          record { answer-is = ends .answer-is ∙ rw goes refl; image-is = ends .image-is ∙ rw goes refl; report-is = ends .report-is ∙ rw goes refl }
+          record {
+            answer-is = ends .answer-is ∙ rw goes refl;
+            image-is = ends .image-is
+                ∙ rw goes refl;
+            report-is = ends .report-is ∙ rw goes refl;
+          }

@@ -15,7 +15,8 @@ use Rattle.meaning.proofs.Decide.{Clean, Found, search-all, decide-pass, decide
 use Rattle.meaning.proofs.Tables.{table-refusing}
 
 -- Checks that refuse, refuse whatever checks stand behind them.
-pub refused-too : (xs ys : List Check) → decide xs (accepted 0) .number ≢ 0 → decide (xs ++ ys) (accepted 0) ≡ decide xs (accepted 0)
+pub refused-too : (xs ys : List Check) → decide xs (accepted 0) .number ≢ 0
+    → decide (xs ++ ys) (accepted 0) ≡ decide xs (accepted 0)
 unfolding decide
 refused-too [] ys n = absurd (n refl)
 refused-too (c ∷ cs) ys n =
@@ -39,7 +40,8 @@ module _ (bs img : List ℕ) where
   started-refused n = rw (refused-too (table-checks bs) _ n, ne-eqb (decide (table-checks bs) (accepted 0) .number) 0 n) (refl, refl)
 
   -- The table accepted, the image decides.
-  pub started-short : check bs .number ≡ 0 → length img ≢ 768 → (start bs img .answer ≡ refused 12 0) × (start bs img .image ≡ img)
+  pub started-short : check bs .number ≡ 0 → length img ≢ 768
+      → (start bs img .answer ≡ refused 12 0) × (start bs img .image ≡ img)
   unfolding start start-checks check decide first
   started-short z n =
       let last : decide (start-checks bs img) (accepted 0) ≡ refused 12 0 =

@@ -26,7 +26,8 @@ lent-checks img ws report known times =
     ∷ word-checks ws report
 
 -- The rows are those of the accepted table that the bytes spell, with room for whole eights of numbers.
-pub record Proceed-of (bs : List ℕ) (n : ℕ) (known : Declared) (rows times : List ℕ) (w s : List (List ℕ)) (heads posts : List ℕ)
+pub record Proceed-of (bs : List ℕ) (n : ℕ) (known : Declared) (rows times : List ℕ) (w s : List (List ℕ))
+    (heads posts : List ℕ)
     : Type 0 where
   pub net-of : Net-of bs n rows w s heads posts times known
   pub eights : ℕ
@@ -34,11 +35,14 @@ pub record Proceed-of (bs : List ℕ) (n : ℕ) (known : Declared) (rows times :
   pub few : 8 * eights ≤ 128
   pub sizes : Sizes (8 * eights) (table bs .records) rows w s heads posts times
 
-pub record Proceed-asks (n : ℕ) (known : Declared) (rows times : List ℕ) (w s : List (List ℕ)) (heads posts : List ℕ) : Type 0 where
+pub record Proceed-asks (n : ℕ) (known : Declared) (rows times : List ℕ) (w s : List (List ℕ))
+    (heads posts : List ℕ) : Type 0 where
   pub bs : List ℕ
   pub of : Proceed-of bs n known rows times w s heads posts
 
 -- Whatever table the rows are of, this is what its run leaves.
-pub record Proceeds (n : ℕ) (known : Declared) (rows times : List ℕ) (w s : List (List ℕ)) (heads posts img ws report : List ℕ) (a : Answer)
+pub record Proceeds (n : ℕ) (known : Declared) (rows times : List ℕ) (w s : List (List ℕ))
+    (heads posts img ws report : List ℕ) (a : Answer)
     (img′ report′ : List ℕ) : Type 0 where
-  pub ran : (bs : List ℕ) → Proceed-of bs n known rows times w s heads posts → Ran bs img ws report (said a) img′ report′
+  pub ran : (bs : List ℕ) → Proceed-of bs n known rows times w s heads posts
+      → Ran bs img ws report (said a) img′ report′

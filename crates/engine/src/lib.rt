@@ -1,16 +1,16 @@
 // The engine's calls over lent bytes: check, start, run, lookup. Each call has its answer table in docs/ENGINE.md.
-use rows::Declared;
 ghost use mathlib.Core.Bool.{true, false};
 ghost use mathlib.Core.Path.{_≡_};
 ghost use Prim.Native.Nat.{_≤_};
 ghost use lib.ListN.{length};
 ghost use denote.Ref.{ptr};
 ghost use Rattle.meaning.specs.Table.{table};
-ghost use Rattle.meaning.specs.Answer.{accepted, refused, decide};
 ghost use Rattle.meaning.specs.Defined.{bad-length};
 ghost use Rattle.meaning.specs.Promise.{Checked, Started, Ran, Looked-up};
 ghost use Rattle.rows.specs.Extent.{Roomy};
-ghost use Rattle.engine.specs.Said.{said, lent-checks, Proceed-asks, Proceeds};
+ghost use Rattle.engine.specs.Said.{said};
+
+mod lent; // lent.rt: what is lent beside an accepted table
 
 // An answer: its number (0 accepted), the page's where, the cycles done.
 pub struct Answer {
@@ -120,7 +120,8 @@ pub fn check(t: &[u8]) -> Answer
     check_large(t, n)
 }
 
-// start: answers 1 to 9, then 12 for an image that is not 768 bytes; accepted, the image is that of the fresh net. A refusal writes nothing.
+// start: answers 1 to 9, then 12 for an image that is not 768 bytes; accepted, the image is that of the fresh net. A
+// refusal writes nothing.
 pub fn start(t: &[u8], image: &mut [u8]) -> Answer
     ensures { λ a. ⌜ Started (now (t .entry)) (now (image .entry)) (said a) (now (image .exit)) ⌝ }
 {
@@ -137,96 +138,6 @@ pub fn start(t: &[u8], image: &mut [u8]) -> Answer
     }
     state::fresh(t, image);
     a
-}
-
-// What is found of the bytes lent beside a table: number and where of an answer.
-struct Finding {
-    number: usize,
-    at: usize,
-}
-
-// Answers 10, 11 and 12, by what the table declares and how far its counters rise. No number of the table is at n or past it.
-fn judge_lent(
-    image: &[u8],
-    words: &[u8],
-    report: &[u8],
-    known: Declared,
-    times: &[u32; 192],
-    n: usize,
-) -> Finding
-    requires { ⌜ n ≤ 128 ⌝ }
-    ensures { λ v. ⌜ refused (v .number) (v .at)
-        ≡ decide (lent-checks (now (image .entry)) (now (words .entry)) (now (report .entry)) known (now (times .entry))) (accepted 0) ⌝ }
-{
-    if image.len() != 768 {
-        return Finding {
-            number: 10,
-            at: 192,
-        };
-    }
-    let wrong = state::first_wrong(image, known, times, n);
-    if wrong < 192 {
-        return Finding {
-            number: 10,
-            at: wrong,
-        };
-    }
-    if words.len() % 8 != 0 {
-        return Finding { number: 11, at: 0 };
-    }
-    if 4096 < words.len() {
-        return Finding { number: 11, at: 0 };
-    }
-    if report.len() < 24 * (words.len() / 8) {
-        return Finding { number: 12, at: 0 };
-    }
-    Finding { number: 0, at: 0 }
-}
-
-// run behind an accepted table, by the rows of its net: answers 10, 11 and 12, then one cycle a word.
-fn proceed(
-    n: usize,
-    known: Declared,
-    image: &mut [u8],
-    words: &[u8],
-    report: &mut [u8],
-    rows: &[u64],
-    times: &[u32; 192],
-    w: &[[u16; 64]],
-    s: &[[u8; 64]],
-    heads: &[u16; 64],
-    posts: &[u16],
-) -> Answer
-    requires { ⌜ Proceed-asks n known (now rows) (now times) (now w) (now s) (now heads) (now posts) ⌝ }
-    ensures { λ a. ⌜ Proceeds n known (now (rows .entry)) (now (times .entry)) (now (w .entry)) (now (s .entry)) (now (heads .entry))
-        (now (posts .entry)) (now (image .entry)) (now (words .entry)) (now (report .entry)) a (now (image .exit)) (now (report .exit)) ⌝ }
-{
-    let lent = judge_lent(image, words, report, known, times, n);
-    if lent.number != 0 {
-        return Answer {
-            number: lent.number,
-            at: lent.at,
-            cycles: 0,
-        };
-    }
-    let told = cycles::play(
-        n,
-        known.transitions,
-        image,
-        words,
-        report,
-        rows,
-        times,
-        w,
-        s,
-        heads,
-        posts,
-    );
-    Answer {
-        number: told.number,
-        at: told.at,
-        cycles: told.cycles,
-    }
 }
 
 // run with rows for 32 numbers and 256 records.
@@ -259,7 +170,7 @@ fn run_small(t: &[u8], n: usize, image: &mut [u8], words: &[u8], report: &mut [u
             cycles: 0,
         };
     }
-    proceed(
+    lent::proceed(
         n,
         v.known,
         image,
@@ -304,7 +215,7 @@ fn run_large(t: &[u8], n: usize, image: &mut [u8], words: &[u8], report: &mut [u
             cycles: 0,
         };
     }
-    proceed(
+    lent::proceed(
         n,
         v.known,
         image,
@@ -319,8 +230,8 @@ fn run_large(t: &[u8], n: usize, image: &mut [u8], words: &[u8], report: &mut [u
     )
 }
 
-// run: answers 1 to 9, then 10, 11 and 12, then one cycle a word, and 13 at a cycle. A refusal before any cycle writes nothing; 13 keeps the
-// finished cycles and nothing of the refused one.
+// run: answers 1 to 9, then 10, 11 and 12, then one cycle a word, and 13 at a cycle. A refusal before any cycle
+// writes nothing; 13 keeps the finished cycles and nothing of the refused one.
 pub fn run(t: &[u8], image: &mut [u8], words: &[u8], report: &mut [u8]) -> Answer
     ensures { λ a. ⌜ Ran (now (t .entry)) (now (image .entry)) (now (words .entry)) (now (report .entry)) (said a)
         (now (image .exit)) (now (report .exit)) ⌝ }
@@ -339,8 +250,8 @@ pub fn run(t: &[u8], image: &mut [u8], words: &[u8], report: &mut [u8]) -> Answe
     run_large(t, n, image, words, report)
 }
 
-// The 24 bytes of one cycle, counted from 1, as that part of the report; an empty part for 0 and for a cycle that the report does not hold
-// whole.
+// The 24 bytes of one cycle, counted from 1, as that part of the report; an empty part for 0 and for a cycle that the
+// report does not hold whole.
 pub fn lookup(report: &[u8], cycle: usize) -> &[u8]
     ensures { λ r. ⌜ Looked-up (now (report .entry)) (ptr (report .entry)) cycle (now r) (ptr r) ⌝ }
 {

@@ -49,7 +49,8 @@ module _ (tb : Table) (sound : Sound-table tb) where
           let column : (f : ℕ → ℕ) → declared tb 2 t f ≡ 0 = λ f. declared-none tb 2 t f (λ s m k o. none (s, m, k, o)) in
           rw (column (tb .sort), column (tb .four), column (tb .six)) (omega arith, λ n. absurd (n refl), omega arith, omega arith)
 
-  arc-shown : (r : ℕ) → r < tb .records → tb .kind r ≡ 3 → Shown 3 (tb .one r) (tb .two r) (tb .sort r) (tb .four r) (tb .six r)
+  arc-shown : (r : ℕ) → r < tb .records → tb .kind r ≡ 3
+      → Shown 3 (tb .one r) (tb .two r) (tb .sort r) (tb .four r) (tb .six r)
   arc-shown r l k = of-kind tb r 3 (sound .shown r l) k
 
   pub sound-well : Well tb
@@ -85,7 +86,8 @@ module _ (tb : Table) (sound : Sound-table tb) where
       transition-low : (t : ℕ) → Transition tb t → t < 64
       transition-low t w = omega (arith, shown-transition (of-kind tb (w .0) 2 (sound .shown (w .0) (w .1)) (w .2)) .0, w .3)
 
-      one-arc : (r s : ℕ) → r < tb .records → s < tb .records → (tb .kind r ≡ 3) × (tb .sort r ≡ 0) → (tb .kind s ≡ 3) × (tb .sort s ≡ 0)
+      one-arc : (r s : ℕ) → r < tb .records → s < tb .records → (tb .kind r ≡ 3) × (tb .sort r ≡ 0)
+          → (tb .kind s ≡ 3) × (tb .sort s ≡ 0)
           → tb .one r ≡ tb .one s → tb .two r ≡ tb .two s → r ≡ s
       one-arc r s l m a b o t =
           same-record tb sound r s l m (Same.input-arc (a .0) (b .0) (omega arith) (omega arith) o t)

@@ -1,4 +1,5 @@
--- The answers of check, start and run are the first that document 01's table says: each list of checks says and catches its rows.
+-- The answers of check, start and run are the first that document 01's table says: each list of checks says and
+-- catches its rows.
 use mathlib.Core.Bool.{Bool, true, false, cond, not, _||_}
 use mathlib.Core.List.{List, _++_, append-assoc}
 use mathlib.Core.Path.{_≡_, refl, sym, ap, _∙_}
@@ -50,7 +51,8 @@ words-decides : (ws : List ℕ)
     → Decides (not (eqb (length ws % 8) 0) || ltb 4096 (length ws)) (¬ (length ws % 8 ≡ 0) ⊎ (4096 < length ws))
 words-decides ws = or-decides (not-decides (eq-decides (length ws % 8) 0)) (lt-decides 4096 (length ws))
 
-room-decides : (ws report : List ℕ) → Decides (ltb (length report) (24 * (length ws / 8))) (length report < 24 * (length ws / 8))
+room-decides : (ws report : List ℕ)
+    → Decides (ltb (length report) (24 * (length ws / 8))) (length report < 24 * (length ws / 8))
 room-decides ws report = lt-decides (length report) (24 * (length ws / 8))
 
 -- 10 at a record is said.
@@ -75,7 +77,8 @@ record-caught bs img ws report k right l e =
 
 -- What is said behind the table's checks, and behind the image's.
 behind-table : (bs img ws report : List ℕ) {n w : ℕ} → 10 ≤ stage n
-    → (Sound-table (table bs) → Caught n w (state-checks (table bs) img ++ word-checks ws report)) → Caught n w (run-list bs img ws report)
+    → (Sound-table (table bs) → Caught n w (state-checks (table bs) img ++ word-checks ws report))
+    → Caught n w (run-list bs img ws report)
 behind-table bs img ws report l g = caught-behind 10 (table-checks bs) _ (table-below bs) l (λ c. g (clean-sound bs c))
 
 behind-state : (bs img ws report : List ℕ) {n w : ℕ} → 10 < stage n → Caught n w (word-checks ws report)
@@ -95,7 +98,8 @@ run-answer bs img ws report n w p q =
     done = trace (table bs) (words-of (length ws / 8) ws) img
 
     go : (a : Answer) (b : Bool) → eqb (a .number) 0 ≡ b
-        → (cond {A = Run} b (ran done report) (record { answer = a; image = img; report = report }) .answer ≡ refused n w)
+        → (cond {A = Run} b (ran done report)
+        (record { answer = a; image = img; report = report }) .answer ≡ refused n w)
         ↔ (a ≡ refused n w)
     go a true e = (
       λ h.
@@ -146,7 +150,8 @@ start-catches bs img n w (Start-says.room h) =
     (λ c. caught-once _ 12 0 _ (length-wrong img .1 h))
 
 -- Start answers the first that is said, and accepts where nothing is.
-pub start-refuses : (bs img : List ℕ) (n w : ℕ) → 0 < n → (start bs img .answer ≡ refused n w) ↔ First (Start-says bs img) n w
+pub start-refuses : (bs img : List ℕ) (n w : ℕ) → 0 < n
+    → (start bs img .answer ≡ refused n w) ↔ First (Start-says bs img) n w
 start-refuses bs img n w p =
     rw (start-answer bs img)
     (refuses (Start-says bs img) (start-checks bs img) (start-refusing bs img) (start-speaks bs img) (start-catches bs img) n w p)
@@ -177,7 +182,8 @@ run-speaks bs img ws report =
       ),
     ))
 
-run-catches : (bs img ws report : List ℕ) (n w : ℕ) → Run-says bs img ws report n w → Caught n w (run-list bs img ws report)
+run-catches : (bs img ws report : List ℕ) (n w : ℕ) → Run-says bs img ws report n w
+    → Caught n w (run-list bs img ws report)
 unfolding stage state-checks word-checks
 run-catches bs img ws report n w (Run-says.of-table s) = caught-append _ (table-catches bs n w s)
 run-catches bs img ws report n w (Run-says.image-length h) =

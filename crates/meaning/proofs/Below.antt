@@ -199,7 +199,8 @@ within-members (suc n) p k h =
     at-last true e q = or-true-right (within (members n p) k) (or-true-left false (eq-eqb n k (sym q))) ∙ sym (ap p q ∙ e)
     at-last false e q = or-false-law (within (members n p) k) ∙ rw (q, within-out n p n (omega arith)) (sym e)
 
-    below : (b : Bool) → within (members n p) k ≡ p k → k < n → (within (members n p) k || within (cond b (n ∷ []) []) k) ≡ p k
+    below : (b : Bool) → within (members n p) k ≡ p k → k < n
+        → (within (members n p) k || within (cond b (n ∷ []) []) k) ≡ p k
     below true w l = rw (ne-eqb n k (λ e. omega arith)) (or-false-law (within (members n p) k) ∙ w)
     below false w l = or-false-law (within (members n p) k) ∙ w
 

@@ -1,5 +1,5 @@
--- Binary digits and bytes: what the digits of a number say, that the number made of a set has just its members, and that bytes spell back the
--- number they were made of. Each law goes digit by digit or byte by byte, the lowest first.
+-- Binary digits and bytes: what the digits of a number say, that the number made of a set has just its members, and
+-- that bytes spell back the number they were made of. Each law goes digit by digit or byte by byte, the lowest first.
 use mathlib.Core.Bool.{Bool, true, false, cond, _||_}
 use mathlib.Core.Path.{_≡_, refl, sym, ap, _∙_}
 use mathlib.Core.Logic.{⊎-elim}

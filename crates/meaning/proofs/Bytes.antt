@@ -1,4 +1,5 @@
--- Reading what was cut and what was joined: piece k of width w holds the bytes from w·k on, and a two-byte number reads back.
+-- Reading what was cut and what was joined: piece k of width w holds the bytes from w·k on, and a two-byte number
+-- reads back.
 use mathlib.Core.Path.{_≡_, sym, ap, _∙_}
 use mathlib.Core.Logic.{⊎-elim}
 use mathlib.Core.List.{List, [], _++_, append-assoc}

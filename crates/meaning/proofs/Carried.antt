@@ -20,7 +20,8 @@ use Rattle.meaning.proofs.Near.{Alike, falling-alike, fired-alike, risi
 use Rattle.meaning.proofs.Image.{tokens-back, counter-back, order-back}
 
 -- A run of n cycles with a next word, and that word's cycle.
-pub one-more : (tb : Table) {ws img left img′ bs : List ℕ} {n w : ℕ} → Steps tb ws img n (w ∷ left) img′ bs → Stays tb img′ w
+pub one-more : (tb : Table) {ws img left img′ bs : List ℕ} {n w : ℕ} → Steps tb ws img n (w ∷ left) img′ bs
+    → Stays tb img′ w
     → Steps tb ws img (suc n) left (image-bytes (cycle tb img′ w .after)) (bs ++ cycle tb img′ w .written)
 one-more tb {left = left} {img′ = img} {w = w} Steps.none stays =
     rw (sym (append-nil (cycle tb img w .written))) (Steps.more stays Steps.none)

@@ -1,5 +1,6 @@
--- The computed priority is the transitive closure of the kind 5 pairs: by induction on the records read so far, it holds only chains of
--- pairs, holds each pair read, and is transitive, since one more pair x over y joins all from x up to all from y down.
+-- The computed priority is the transitive closure of the kind 5 pairs: by induction on the records read so far, it
+-- holds only chains of pairs, holds each pair read, and is transitive, since one more pair x over y joins all from x
+-- up to all from y down.
 use mathlib.Core.Bool.{Bool, true, false, cond, _&&_, _||_}
 use mathlib.Core.Path.{_≡_, refl, subst}
 use mathlib.Core.Logic.{_⊎_, inl, inr, ⊎-elim, _↔_}

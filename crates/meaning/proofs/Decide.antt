@@ -1,4 +1,5 @@
--- A list of checks gives the first answer that is said: walk the list; a clean check says nothing, and the first that is not clean decides.
+-- A list of checks gives the first answer that is said: walk the list; a clean check says nothing, and the first that
+-- is not clean decides.
 use mathlib.Core.Bool.{Bool, true, false}
 use mathlib.Core.List.{List, [], _∷_, _++_}
 use mathlib.Core.Path.{_≡_, refl, sym, ap, _∙_}

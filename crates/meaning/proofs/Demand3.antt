@@ -1,5 +1,5 @@
--- Demand 3: the start marking pays for all withdrawals together, and firing one by one in any order finds what it takes and ends in the one
--- marking that the cycle reports.
+-- Demand 3: the start marking pays for all withdrawals together, and firing one by one in any order finds what it
+-- takes and ends in the one marking that the cycle reports.
 use mathlib.Core.Bool.{_&&_}
 use mathlib.Core.List.{List}
 use mathlib.Core.Path.{_≡_}
@@ -51,7 +51,8 @@ module _ (tb : Table) (well : Well tb) (s : State) (word : ℕ) where
 
   -- Every order of the fired set's members can be fired one by one, and all orders end in the marking of the cycle.
   pub any-order : (order : List ℕ) → Order order (fired tb s word)
-      → (m′ : ℕ → ℕ) × One-by-one tb (s .tokens) order m′ × ((p : ℕ) → m′ p ≡ marked tb (s .tokens) (within (fired tb s word)) p)
+      → (m′ : ℕ → ℕ) × One-by-one tb (s .tokens) order m′
+      × ((p : ℕ) → m′ p ≡ marked tb (s .tokens) (within (fired tb s word)) p)
   unfolding marked
   any-order order o =
       let paid : (p : ℕ) → over (λ t. takes tb t p) order ≤ s .tokens p =

@@ -1,4 +1,5 @@
--- The three demands, whole, for every table, image, list of words and report: each is put together from the laws of its part.
+-- The three demands, whole, for every table, image, list of words and report: each is put together from the laws of
+-- its part.
 use mathlib.Core.Bool.{Bool, _&&_}
 use mathlib.Core.List.{List, [], _∷_}
 use mathlib.Core.Logic.{_↔_, _⊎_, inl, inr, ⊎-elim}
@@ -104,7 +105,8 @@ module _ (bs img ws report : List ℕ) where
       verdict-form
 
   -- Run goes on to its cycles where it answers 0 or 13.
-  pub went : (run bs img ws report .answer .number ≡ 0) ⊎ (run bs img ws report .answer .number ≡ 13) → verdict bs img ws report ≡ accepted 0
+  pub went : (run bs img ws report .answer .number ≡ 0) ⊎ (run bs img ws report .answer .number ≡ 13)
+      → verdict bs img ws report ≡ accepted 0
   went h = ⊎-elim (λ e. e) (λ x. absurd (clash x h)) verdict-form
     where
       clash : (n : ℕ) × (w : ℕ) × (0 < n) × (n < 13) × (verdict bs img ws report ≡ refused n w)
@@ -116,7 +118,8 @@ module _ (bs img ws report : List ℕ) where
           ⊎-elim (λ z. omega arith) (λ z. omega arith) h
 
   -- A run that goes on answers 0 or 13.
-  pub ended : verdict bs img ws report .number ≡ 0 → (run bs img ws report .answer .number ≡ 0) ⊎ (run bs img ws report .answer .number ≡ 13)
+  pub ended : verdict bs img ws report .number ≡ 0
+      → (run bs img ws report .answer .number ≡ 0) ⊎ (run bs img ws report .answer .number ≡ 13)
   ended z = rw (run-goes-on bs img ws report z) (trace-number (table bs) (words ws) img)
 
   -- Run answers 0 to 13.
@@ -129,7 +132,8 @@ module _ (bs img ws report : List ℕ) where
       verdict-form
 
   -- A finished cycle tells that the run went on.
-  pub some-cycle-went : (k : ℕ) → 1 ≤ k → k ≤ run bs img ws report .answer .cycles → verdict bs img ws report ≡ accepted 0
+  pub some-cycle-went : (k : ℕ) → 1 ≤ k → k ≤ run bs img ws report .answer .cycles
+      → verdict bs img ws report ≡ accepted 0
   some-cycle-went k l h =
       ⊎-elim (λ v. v)
       (λ x.
@@ -152,10 +156,12 @@ module _ (bs img ws report : List ℕ) where
       named : run bs img ws report .answer .number ≡ n
       named = ap (λ (a : Answer). a .number) e
 
-  goes : ((n w : ℕ) → ¬ Run-says bs img ws report n w) → run bs img ws report ≡ ran (trace (table bs) (words ws) img) report
+  goes : ((n w : ℕ) → ¬ Run-says bs img ws report n w)
+      → run bs img ws report ≡ ran (trace (table bs) (words ws) img) report
   goes none = run-goes-on bs img ws report (ap (λ (a : Answer). a .number) (run-goes bs img ws report .1 none))
 
-  -- Accepted after c cycles: exactly if nothing of 1 to 12 is said and all words' cycles are taken, c of them; image and report are theirs.
+  -- Accepted after c cycles: exactly if nothing of 1 to 12 is said and all words' cycles are taken, c of them; image
+  -- and report are theirs.
   pub run-accepts : (c : ℕ)
       → (run bs img ws report .answer ≡ accepted c)
       ↔ (((n w : ℕ) → ¬ Run-says bs img ws report n w)
@@ -172,10 +178,12 @@ module _ (bs img ws report : List ℕ) where
           (run-goes bs img ws report .0 (went (inl zero-is)), (left .1, left .2, rw count at (left .3)))
 
       from : ((n w : ℕ) → ¬ Run-says bs img ws report n w)
-          × ((img′ : List ℕ) × (bytes : List ℕ) × Steps (table bs) (words ws) img c [] img′ bytes) → run bs img ws report .answer ≡ accepted c
+          × ((img′ : List ℕ) × (bytes : List ℕ) × Steps (table bs) (words ws) img c [] img′ bytes)
+          → run bs img ws report .answer ≡ accepted c
       from h = rw (goes (h .0), trace-finishes (table bs) (h .1 .2))
 
-  -- Refused by 13 after c cycles at place p: exactly if nothing of 1 to 12 is said, c cycles are taken, and the next would burst at p first.
+  -- Refused by 13 after c cycles at place p: exactly if nothing of 1 to 12 is said, c cycles are taken, and the next
+  -- would burst at p first.
   pub run-bursts : (p c : ℕ)
       → (run bs img ws report .answer ≡ record { number = 13; at = p; cycles = c })
       ↔ (((n w : ℕ) → ¬ Run-says bs img ws report n w)
@@ -201,8 +209,8 @@ module _ (bs img ws report : List ℕ) where
       from : Burst → run bs img ws report .answer ≡ record { number = 13; at = p; cycles = c }
       from h = rw (goes (h .0), trace-bursts (table bs) (h .1 .4) (h .1 .5))
 
--- DEMAND 2: acceptance is well-definedness (check-refuses and check-accepts of Answers.antt), and each cycle's set is the one that meets
--- definition 6.
+-- DEMAND 2: acceptance is well-definedness (check-refuses and check-accepts of Answers.antt), and each cycle's set is
+-- the one that meets definition 6.
 pub fires-by-definition-6 : (bs : List ℕ) → check bs ≡ accepted 0 → (s : State) (word : ℕ)
     → Meets (table bs) s word (within (fired (table bs) s word))
     × ((F : ℕ → Bool) → Meets (table bs) s word F → (t : ℕ) → F t ≡ within (fired (table bs) s word) t)
@@ -228,7 +236,8 @@ one-step : {tb : Table} {img img′ bytes : List ℕ} {n w : ℕ} → Steps tb (
 one-step (Steps.more stays Steps.none) = (stays, refl)
 
 -- A call of run with one word that is accepted leaves that marking in the image.
-pub demand-3-reported : (bs img ws report : List ℕ) → length ws ≡ 8 → run bs img ws report .answer .number ≡ 0 → (p : ℕ) → p < 128
+pub demand-3-reported : (bs img ws report : List ℕ) → length ws ≡ 8 → run bs img ws report .answer .number ≡ 0
+    → (p : ℕ) → p < 128
     → state (image (run bs img ws report .image)) .tokens p
     ≡ marked (table bs) (state (image img) .tokens) (within (cycle (table bs) img (number (take 8 ws)) .fired)) p
 unfolding words-of
@@ -238,12 +247,14 @@ demand-3-reported bs img ws report e z p l =
     let after = one-step steps in
     rw (left .4 .1, after .1) (marking-stands (table bs) img (number (take 8 ws)) (after .0) p l)
 
--- What goes with demand 3: the residual marking of any transition is M less what is really there, so natural subtraction hides nothing.
+-- What goes with demand 3: the residual marking of any transition is M less what is really there, so natural
+-- subtraction hides nothing.
 pub residual-never-below : (bs : List ℕ) → check bs ≡ accepted 0 → (s : State) (word t p : ℕ)
     → withdrawn (table bs) (λ u. within (fired (table bs) s word) u && above (table bs) u t) p ≤ s .tokens p
 residual-never-below bs e = residual-whole (table bs) (accepted-well bs e)
 
--- And with demand 2: over any run from an image that fits, the page's stopped counters and the source's make the same transitions firable.
+-- And with demand 2: over any run from an image that fits, the page's stopped counters and the source's make the same
+-- transitions firable.
 pub same-firable-as-the-source : (bs : List ℕ) → check bs ≡ accepted 0 → {ws img left img′ bytes : List ℕ} {n : ℕ}
     → Fits (table bs) (image img) → Steps (table bs) ws img n left img′ bytes → (word t : ℕ)
     → firable (table bs) (falling (table bs) (state (image img′))) word t

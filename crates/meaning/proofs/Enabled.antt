@@ -18,12 +18,13 @@ arc-is tb s r e = (
 )
 
 -- Of an enabled transition no record stops it.
-pub nothing-stops : (tb : Table) (m : ℕ → ℕ) (t : ℕ) → enabled tb m t ≡ true → (r : ℕ) → r < tb .records → stops tb m t r ≡ false
+pub nothing-stops : (tb : Table) (m : ℕ → ℕ) (t : ℕ) → enabled tb m t ≡ true → (r : ℕ) → r < tb .records
+    → stops tb m t r ≡ false
 unfolding enabled
 nothing-stops tb m t e = none-elim (tb .records) (stops tb m t) (not-true (some (tb .records) (stops tb m t)) e)
 
--- What an input arc asks: a basic or a test arc stops its transition exactly where it finds less than its weight, an inhibitor arc where
--- it does not.
+-- What an input arc asks: a basic or a test arc stops its transition exactly where it finds less than its weight, an
+-- inhibitor arc where it does not.
 pub stops-basic : (tb : Table) (m : ℕ → ℕ) (t r : ℕ) → tb .kind r ≡ 3 → tb .sort r ≡ 0 → tb .two r ≡ t
     → stops tb m t r ≡ ltb (m (tb .one r)) (tb .four r)
 unfolding stops

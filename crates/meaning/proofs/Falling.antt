@@ -1,5 +1,5 @@
--- The falling edge is what its rules say, in both directions: enabled (definition 4), active actions (rule 2), counters (rules 3 to 6). Each
--- definition is asked record by record, and so is its rule.
+-- The falling edge is what its rules say, in both directions: enabled (definition 4), active actions (rule 2),
+-- counters (rules 3 to 6). Each definition is asked record by record, and so is its rule.
 use mathlib.Core.Bool.{true, false, cond, not, _&&_}
 use mathlib.Core.Logic.{_↔_, _≢_, _⊎_, inl, inr, ⊎-elim}
 use mathlib.Core.Path.{_≡_, refl, sym, ap, _∙_, subst}
@@ -149,7 +149,8 @@ module _ (tb : Table) (sound : Sound-table tb) where
             rw (counted-off (timed-not-0 t i) off) (Counter.rule-6 i (λ e. not-both (enabled-is (s .tokens) t .1 e) off)))
             (either (enabled tb (s .tokens) t))
 
-        between : timing tb t ≡ 1 → Between tb t (a-of tb t) (b-of tb t) → enabled tb (s .tokens) t ≡ true → s .order t ≡ false
+        between : timing tb t ≡ 1 → Between tb t (a-of tb t) (b-of tb t) → enabled tb (s .tokens) t ≡ true
+            → s .order t ≡ false
             → Counter tb s t (counted tb s t)
         between z i on o =
             rw (counted-between z on o)

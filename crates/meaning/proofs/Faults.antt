@@ -1,4 +1,5 @@
--- Answers 2, 3 and 4: the first record with a fault is the first of which 2, 3 or 4 is said, and its fault is the lowest of them.
+-- Answers 2, 3 and 4: the first record with a fault is the first of which 2, 3 or 4 is said, and its fault is the
+-- lowest of them.
 use mathlib.Core.Bool.{Bool, true, false, cond, not}
 use mathlib.Core.List.{List, _∷_}
 use mathlib.Core.Path.{_≡_, refl, sym, _∙_, subst}
@@ -32,7 +33,8 @@ pub fault-of : (tb : Table) (r : ℕ) → Fault tb r (fault tb r)
 unfolding fault
 fault-of tb r = go (bad-kind tb r) (bad-field tb r) (twice tb r) refl refl refl
   where
-    go : (a b c : Bool) → bad-kind tb r ≡ a → bad-field tb r ≡ b → twice tb r ≡ c → Fault tb r (cond a 2 (cond b 3 (cond c 4 0)))
+    go : (a b c : Bool) → bad-kind tb r ≡ a → bad-field tb r ≡ b → twice tb r ≡ c
+        → Fault tb r (cond a 2 (cond b 3 (cond c 4 0)))
     go true b c e f g = Fault.kind e
     go false true c e f g = Fault.field e f
     go false false true e f g = Fault.again e f g
@@ -50,7 +52,8 @@ faultless tb r = go (fault tb r) (fault-of tb r)
     go n (Fault.again e f g) h = not-both refl h
 
 -- A fault is a number from 2 to 4, and all three are of one stage.
-pub fault-range : (tb : Table) (r : ℕ) → faulty tb r ≡ true → (0 < fault tb r) × (fault tb r ≤ 4) × (stage (fault tb r) ≡ 2)
+pub fault-range : (tb : Table) (r : ℕ) → faulty tb r ≡ true
+    → (0 < fault tb r) × (fault tb r ≤ 4) × (stage (fault tb r) ≡ 2)
 unfolding faulty stage
 fault-range tb r = go (fault tb r) (fault-of tb r)
   where
@@ -101,7 +104,8 @@ caught-at tb n r r′ cs s l m e f =
         ]
 
 -- What 2, 3 and 4 say of record r is caught.
-pub kind-caught : (tb : Table) (r : ℕ) (cs : List Check) → r < tb .records → ¬ Sort (tb .kind r) (tb .sort r) → Caught 2 r (faults tb ∷ cs)
+pub kind-caught : (tb : Table) (r : ℕ) (cs : List Check) → r < tb .records → ¬ Sort (tb .kind r) (tb .sort r)
+    → Caught 2 r (faults tb ∷ cs)
 unfolding stage
 kind-caught tb r cs l n =
     let f = kind-fault tb r n in
@@ -113,7 +117,8 @@ field-caught tb r cs l n =
     let f = field-fault tb r n in
     caught-at tb 3 r r cs refl l (omega arith) (f .0) (λ e. f .1)
 
-pub again-caught : (tb : Table) (s r : ℕ) (cs : List Check) → s < r → r < tb .records → Same tb s r → Caught 4 r (faults tb ∷ cs)
+pub again-caught : (tb : Table) (s r : ℕ) (cs : List Check) → s < r → r < tb .records → Same tb s r
+    → Caught 4 r (faults tb ∷ cs)
 unfolding stage twice
 again-caught tb s r cs m l q =
     ⊎-elim (λ (b : faulty tb r ≡ true). caught-at tb 4 r r cs refl l (omega arith) b (λ e. fault-range tb r b .1))

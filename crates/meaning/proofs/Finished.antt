@@ -1,5 +1,5 @@
--- Every finished cycle of a run, from the bytes alone: a run that did a cycle passed all its checks, so its table is accepted and its image fits, and the
--- laws of one cycle hold of each step it took.
+-- Every finished cycle of a run, from the bytes alone: a run that did a cycle passed all its checks, so its table is
+-- accepted and its image fits, and the laws of one cycle hold of each step it took.
 use mathlib.Core.List.{List, [], _∷_}
 use mathlib.Core.Logic.{_⊎_, ⊎-elim}
 use mathlib.Core.Path.{_≡_, refl, sym, ap, _∙_}
@@ -40,11 +40,13 @@ steps-left (Steps.more {w} {n} {ws} s r) k =
     let there : suc (n + k) ≡ suc n + k = omega arith in
     steps-left r k ∙ ap (λ (i : ℕ). getD (w ∷ ws) i 0) there
 
-pub steps-count : {tb : Table} {ws img left img′ bytes : List ℕ} {n : ℕ} → Steps tb ws img n left img′ bytes → n + length left ≡ length ws
+pub steps-count : {tb : Table} {ws img left img′ bytes : List ℕ} {n : ℕ} → Steps tb ws img n left img′ bytes
+    → n + length left ≡ length ws
 steps-count Steps.none = omega arith
 steps-count (Steps.more s r) = omega (arith, steps-count r)
 
-pub reached-once : {tb : Table} {ws img left img′ bytes left′ img″ bytes′ : List ℕ} {n : ℕ} → Steps tb ws img n left img′ bytes
+pub reached-once : {tb : Table} {ws img left img′ bytes left′ img″ bytes′ : List ℕ} {n : ℕ}
+    → Steps tb ws img n left img′ bytes
     → Steps tb ws img n left′ img″ bytes′ → img′ ≡ img″
 reached-once Steps.none Steps.none = refl
 reached-once (Steps.more s r) (Steps.more s′ r′) = reached-once r r′
@@ -57,7 +59,8 @@ words-length (suc n) ws = ap suc (words-length n (drop 8 ws))
 -- FINISHED CYCLES
 
 -- What a cycle that is not refused leaves in the image is the state after it.
-after-spelt : (bs : List ℕ) → check bs ≡ accepted 0 → (img : List ℕ) (word : ℕ) → Image-fits (table bs) img → Stays (table bs) img word
+after-spelt : (bs : List ℕ) → check bs ≡ accepted 0 → (img : List ℕ) (word : ℕ) → Image-fits (table bs) img
+    → Stays (table bs) img word
     → State-spelt (image-bytes (cycle (table bs) img word .after)) (cycle (table bs) img word .after)
 unfolding ceiling
 after-spelt bs ok img word fits stays =
@@ -65,7 +68,8 @@ after-spelt bs ok img word fits stays =
 
 module _ (bs img ws report : List ℕ) where
   -- What run leaves in the image is what its cycles done reach, however it ends.
-  pub image-reached : Reaches (table bs) (words ws) img (run bs img ws report .answer .cycles) (run bs img ws report .image)
+  pub image-reached : Reaches (table bs) (words ws) img (run bs img ws report .answer .cycles)
+      (run bs img ws report .image)
   image-reached = ⊎-elim went stopped (verdict-form bs img ws report)
     where
       went : verdict bs img ws report ≡ accepted 0
@@ -140,7 +144,8 @@ module _ (bs img ws report : List ℕ) where
           rw (run-refused-leaves bs img ws report (λ z. omega (arith, ap (λ (a : Answer). a .number) v)) .1)
 
   -- Every finished cycle, counted from 1.
-  pub finished : (k : ℕ) → 1 ≤ k → k ≤ run bs img ws report .answer .cycles → Finished bs img ws (run bs img ws report .report) k
+  pub finished : (k : ℕ) → 1 ≤ k → k ≤ run bs img ws report .answer .cycles
+      → Finished bs img ws (run bs img ws report .report) k
   finished k l h =
       let v = some-cycle-went bs img ws report k l h in
       let x = lookup-run bs img ws report (ap (λ (a : Answer). a .number) v) k l h in
@@ -149,13 +154,15 @@ module _ (bs img ws report : List ℕ) where
 -- No words: no cycle is done and every byte is as it was; accepted, if nothing of 1 to 12 is said.
 pub nothing-to-do : (bs img report : List ℕ)
     → (((n w : ℕ) → ¬ Run-says bs img [] report n w) → run bs img [] report .answer ≡ accepted 0)
-    × (run bs img [] report .answer .cycles ≡ 0) × (run bs img [] report .image ≡ img) × (run bs img [] report .report ≡ report)
+    × (run bs img [] report .answer .cycles ≡ 0) × (run bs img [] report .image ≡ img)
+    × (run bs img [] report .report ≡ report)
 nothing-to-do bs img report = ⊎-elim went stopped (verdict-form bs img [] report)
   where
     Left : Type 0
     Left =
         (((n w : ℕ) → ¬ Run-says bs img [] report n w) → run bs img [] report .answer ≡ accepted 0)
-        × (run bs img [] report .answer .cycles ≡ 0) × (run bs img [] report .image ≡ img) × (run bs img [] report .report ≡ report)
+        × (run bs img [] report .answer .cycles ≡ 0) × (run bs img [] report .image ≡ img)
+        × (run bs img [] report .report ≡ report)
 
     went : verdict bs img [] report ≡ accepted 0 → Left
     went v =

@@ -1,4 +1,5 @@
--- Exactly one set meets definition 6, and `fired` computes it: a transition's case rests only on those above it, and these have fewer above.
+-- Exactly one set meets definition 6, and `fired` computes it: a transition's case rests only on those above it, and
+-- these have fewer above.
 use mathlib.Core.Bool.{Bool, true, false, cond, not, _&&_, and-comm}
 use mathlib.Core.Path.{_≡_, refl, sym, ap, _∙_, subst, fun-ext}
 use mathlib.Core.Logic.{_⊎_, inl, inr, ⊎-elim}
@@ -35,7 +36,8 @@ same-and a b c f = and-comm a c ∙ and-same c a b f ∙ and-comm c b
 
 -- Enabling rests only on the marking at the places of the transition's arcs.
 pub enabled-same : (tb : Table) (m n : ℕ → ℕ) (t : ℕ)
-    → ((r : ℕ) → r < tb .records → tb .kind r ≡ 3 → tb .two r ≡ t → m (tb .one r) ≡ n (tb .one r)) → enabled tb m t ≡ enabled tb n t
+    → ((r : ℕ) → r < tb .records → tb .kind r ≡ 3 → tb .two r ≡ t → m (tb .one r) ≡ n (tb .one r))
+    → enabled tb m t ≡ enabled tb n t
 unfolding enabled stops
 enabled-same tb m n t f = ap not (some-same (tb .records) (stops tb m t) (stops tb n t) same)
   where
@@ -54,7 +56,8 @@ enabled-same tb m n t f = ap not (some-same (tb .records) (stops tb m t) (stops 
 
 -- What is withdrawn rests only on the transitions that basic arcs name.
 pub withdrawn-same : (tb : Table) (F G : ℕ → Bool) (p : ℕ)
-    → ((r : ℕ) → r < tb .records → basic tb r ≡ true → F (tb .two r) ≡ G (tb .two r)) → withdrawn tb F p ≡ withdrawn tb G p
+    → ((r : ℕ) → r < tb .records → basic tb r ≡ true → F (tb .two r) ≡ G (tb .two r))
+    → withdrawn tb F p ≡ withdrawn tb G p
 unfolding withdrawn total
 withdrawn-same tb F G p f =
     sum-same (tb .records) (λ r. cond (of r && F (tb .two r)) (tb .four r) 0) (λ r. cond (of r && G (tb .two r)) (tb .four r) 0)
@@ -191,7 +194,8 @@ module _ (tb : Table) (ok : Well tb) where
       (side t)
 
   -- And nothing else meets it.
-  pub fired-only : (s : State) (word : ℕ) (F : ℕ → Bool) → Meets tb s word F → (t : ℕ) → F t ≡ within (fired tb s word) t
+  pub fired-only : (s : State) (word : ℕ) (F : ℕ → Bool) → Meets tb s word F → (t : ℕ)
+      → F t ≡ within (fired tb s word) t
   fired-only s word F f t =
       let m = s .tokens in
       let able = firable tb s word in

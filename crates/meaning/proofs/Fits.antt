@@ -1,5 +1,5 @@
--- An image that fits, after a cycle that is not refused, fits again: each counter stays at most as high as its sort allows, and a place that
--- no record declares has no arc to fill it.
+-- An image that fits, after a cycle that is not refused, fits again: each counter stays at most as high as its sort
+-- allows, and a place that no record declares has no arc to fill it.
 use mathlib.Core.Bool.{Bool, true, false, cond, not, _&&_, _||_, and-false}
 use mathlib.Core.List.{List}
 use mathlib.Core.Logic.{_⊎_, inl, inr, ⊎-elim}
@@ -122,7 +122,8 @@ module _ (tb : Table) (well : Well tb) where
       omega (arith, quiet (post tb) F p (λ r b. arc-is tb 3 r b .0) none)
 
   -- A state whose counters fit and whose undeclared places and untimed transitions are empty gives an image that fits.
-  pub image-fits : (s : State) → ((p : ℕ) → p < 128 → s .tokens p ≤ 65535) → ((p : ℕ) → p < 128 → place tb p ≡ false → s .tokens p ≡ 0)
+  pub image-fits : (s : State) → ((p : ℕ) → p < 128 → s .tokens p ≤ 65535)
+      → ((p : ℕ) → p < 128 → place tb p ≡ false → s .tokens p ≡ 0)
       → ((t : ℕ) → t < 64 → s .counter t ≤ most tb t) → ((t : ℕ) → t < 64 → timing tb t ≡ 0 → s .order t ≡ false)
       → Fits tb (image (image-bytes s))
   unfolding wrong wrong-place wrong-transition most-order
@@ -152,12 +153,14 @@ module _ (tb : Table) (well : Well tb) where
           order-low false false f = refl
 
   -- After a cycle every counter takes two bytes.
-  pub counter-low : (bs : List ℕ) (word : ℕ) → Fits tb (image bs) → (t : ℕ) → t < 64 → cycle tb bs word .after .counter t ≤ 65535
+  pub counter-low : (bs : List ℕ) (word : ℕ) → Fits tb (image bs) → (t : ℕ) → t < 64
+      → cycle tb bs word .after .counter t ≤ 65535
   unfolding cycle rising falling
   counter-low bs word fits t h = le-trans (counted-low (state (image bs)) t (fits-counter tb (image bs) fits t h)) (most-low t)
 
   -- After a cycle that keeps every place within two bytes, the image fits again.
-  pub fits-after : (bs : List ℕ) (word : ℕ) → Fits tb (image bs) → ((p : ℕ) → p < 128 → cycle tb bs word .after .tokens p ≤ 65535)
+  pub fits-after : (bs : List ℕ) (word : ℕ) → Fits tb (image bs)
+      → ((p : ℕ) → p < 128 → cycle tb bs word .after .tokens p ≤ 65535)
       → Fits tb (image (image-bytes (cycle tb bs word .after)))
   unfolding cycle rising falling reset
   fits-after bs word fits small =
@@ -166,5 +169,6 @@ module _ (tb : Table) (well : Well tb) where
       (λ t h. counted-low (state (image bs)) t (fits-counter tb (image bs) fits t h))
       (λ t h untimed. no-order t untimed)
     where
-      no-order : (t : ℕ) → timing tb t ≡ 0 → reset tb (state (image bs) .tokens) (within (cycle tb bs word .fired)) t ≡ false
+      no-order : (t : ℕ) → timing tb t ≡ 0
+          → reset tb (state (image bs) .tokens) (within (cycle tb bs word .fired)) t ≡ false
       no-order t e = rw e

@@ -33,7 +33,8 @@ module _ (s : State) where
   unfolding image-bytes
   place-byte p i hp hi = join-read 4 (place-record s) (place-wide s) 128 p i (join 64 (transition-record s)) hp hi
 
-  pub transition-byte : (t i : ℕ) → t < 64 → i < 4 → getD (image-bytes s) (4 * (128 + t) + i) 0 ≡ getD (transition-record s t) i 0
+  pub transition-byte : (t i : ℕ) → t < 64 → i < 4
+      → getD (image-bytes s) (4 * (128 + t) + i) 0 ≡ getD (transition-record s t) i 0
   unfolding image-bytes
   transition-byte t i ht hi =
       let there : 4 * (128 + t) + i ≡ length (join 128 (place-record s)) + (4 * t + i) =
@@ -44,7 +45,8 @@ module _ (s : State) where
       ∙ join-read 4 (transition-record s) (transition-wide s) 64 t i [] ht hi
 
   -- The columns of an image's record, of a place and of a transition.
-  place-column : (p i : ℕ) → p < 128 → i < 4 → getD (getD (cut 4 192 (image-bytes s)) p []) i 0 ≡ getD (place-record s p) i 0
+  place-column : (p i : ℕ) → p < 128 → i < 4
+      → getD (getD (cut 4 192 (image-bytes s)) p []) i 0 ≡ getD (place-record s p) i 0
   place-column p i hp hi = cut-read 4 192 p i (image-bytes s) (omega arith) hi ∙ place-byte p i hp hi
 
   transition-column : (t i : ℕ) → t < 64 → i < 4
@@ -64,7 +66,8 @@ module _ (s : State) where
   unfolding image bytes
   place-fourth p hp = place-column p 3 hp (omega arith)
 
-  pub transition-number : (t : ℕ) → t < 64 → s .counter t ≤ 65535 → image (image-bytes s) .number (128 + t) ≡ s .counter t
+  pub transition-number : (t : ℕ) → t < 64 → s .counter t ≤ 65535
+      → image (image-bytes s) .number (128 + t) ≡ s .counter t
   unfolding image bytes
   transition-number t ht fits =
       ap₂ (λ (a b : ℕ). a + 256 * b) (transition-column t 0 ht (omega arith)) (transition-column t 1 ht (omega arith))

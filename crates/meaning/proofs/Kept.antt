@@ -1,5 +1,5 @@
--- Images that fit: the one that start leaves, and the one after every finished cycle; so run never answers 10 to them. First tokens, counters and reset
--- orders are within what the table says, and each cycle keeps them there.
+-- Images that fit: the one that start leaves, and the one after every finished cycle; so run never answers 10 to
+-- them. First tokens, counters and reset orders are within what the table says, and each cycle keeps them there.
 use mathlib.Core.Bool.{false}
 use mathlib.Core.List.{List}
 use mathlib.Core.Logic.{_↔_, _≢_, _⊎_, inl, inr, ⊎-elim}
@@ -96,7 +96,8 @@ module _ (bs : List ℕ) (ok : check bs ≡ accepted 0) where
       (fresh (table bs), fresh-is (table bs) sound, written-spelt (fresh (table bs)) (λ p l. small p) (λ t l. omega arith))
 
   -- After any number of finished cycles the image fits again.
-  pub steps-fit : {ws img left img′ bytes : List ℕ} {n : ℕ} → Image-fits (table bs) img → Steps (table bs) ws img n left img′ bytes
+  pub steps-fit : {ws img left img′ bytes : List ℕ} {n : ℕ} → Image-fits (table bs) img
+      → Steps (table bs) ws img n left img′ bytes
       → Image-fits (table bs) img′
   unfolding ceiling
   steps-fit fits Steps.none = fits
@@ -105,7 +106,8 @@ module _ (bs : List ℕ) (ok : check bs ≡ accepted 0) where
       (fits-is _ .0 (image-length _, fits-after (table bs) (accepted-well bs ok) img w (fits-is img .1 fits .1) stays)) r
 
 -- Run never answers 10 to an image that fits.
-fitting-passes : {bs img ws report : List ℕ} {n w : ℕ} → Image-fits (table bs) img → Run-says bs img ws report n w → n ≢ 10
+fitting-passes : {bs img ws report : List ℕ} {n w : ℕ} → Image-fits (table bs) img → Run-says bs img ws report n w
+    → n ≢ 10
 fitting-passes fits (Run-says.of-table s) e = omega (arith, table-low s)
 fitting-passes fits (Run-says.image-length h) e = h (fits .long)
 fitting-passes fits (Run-says.image-place {p} long l h) e = h (fits .place p l)
@@ -114,7 +116,8 @@ fitting-passes fits (Run-says.words-odd h) e = omega arith
 fitting-passes fits (Run-says.words-long h) e = omega arith
 fitting-passes fits (Run-says.room h) e = omega arith
 
-pub never-10 : (bs img : List ℕ) → Image-fits (table bs) img → (ws report : List ℕ) → run bs img ws report .answer .number ≢ 10
+pub never-10 : (bs img : List ℕ) → Image-fits (table bs) img → (ws report : List ℕ)
+    → run bs img ws report .answer .number ≢ 10
 never-10 bs img fits ws report e =
     ⊎-elim
     (λ v. ⊎-elim (λ z. omega arith) (λ z. omega arith) (ended bs img ws report (ap (λ (a : Answer). a .number) v)))

@@ -1,5 +1,5 @@
--- A cycle over an accepted table asks the marking only at places and the counters and orders only of transitions: states that agree there fire the
--- same set and agree there again afterwards.
+-- A cycle over an accepted table asks the marking only at places and the counters and orders only of transitions:
+-- states that agree there fire the same set and agree there again afterwards.
 use mathlib.Core.Bool.{Bool, true, not, _&&_, _||_}
 use mathlib.Core.List.{List}
 use mathlib.Core.Logic.{⊎-elim}
@@ -22,7 +22,8 @@ module _ (tb : Table) (well : Well tb) where
   near : (r : ℕ) → r < tb .records → tb .kind r ≡ 3 → tb .one r < 128
   near r h k = well .place-known (tb .one r) (well .arc-place r h k)
 
-  -- Markings that agree on the places enable the same, lead to the same rounds of definition 6, and give the same reset orders.
+  -- Markings that agree on the places enable the same, lead to the same rounds of definition 6, and give the same
+  -- reset orders.
   module _ (m n : ℕ → ℕ) (agree : (p : ℕ) → p < 128 → m p ≡ n p) where
     pub enabled-near : (t : ℕ) → enabled tb m t ≡ enabled tb n t
     enabled-near t = enabled-same tb m n t (λ r h k e. agree (tb .one r) (near r h k))
@@ -40,7 +41,8 @@ module _ (tb : Table) (well : Well tb) where
         input : (r : ℕ) → (basic tb r || test tb r) ≡ true → tb .kind r ≡ 3
         input r e = ⊎-elim (λ b. arc-is tb 0 r b .0) (λ b. arc-is tb 1 r b .0) (or-cases (basic tb r) (test tb r) e)
 
-  pub rounds-near : (m n : ℕ → ℕ) → ((p : ℕ) → p < 128 → m p ≡ n p) → (able : ℕ → Bool) (k : ℕ) → rounds tb m able k ≡ rounds tb n able k
+  pub rounds-near : (m n : ℕ → ℕ) → ((p : ℕ) → p < 128 → m p ≡ n p) → (able : ℕ → Bool) (k : ℕ)
+      → rounds tb m able k ≡ rounds tb n able k
   unfolding rounds rule residual
   rounds-near m n agree able zero = refl
   rounds-near m n agree able (suc k) =

@@ -1,4 +1,5 @@
--- A call has one outcome and no second: each relation says that every part of the outcome equals what one function computes.
+-- A call has one outcome and no second: each relation says that every part of the outcome equals what one function
+-- computes.
 use mathlib.Core.Bool.{true, false, and-false}
 use mathlib.Core.List.{List, [], _∷_, _++_, append-assoc}
 use mathlib.Core.Logic.{_⊎_, inl, inr}
@@ -24,14 +25,17 @@ use Rattle.meaning.proofs.Run.{cycle-length, written-length, verdict, w
 pub no-second-check : (bs : List ℕ) (a b : Answer) → Checked bs a → Checked bs b → a ≡ b
 no-second-check bs a b p q = cc
 
-pub no-second-start : (bs img : List ℕ) (a b : Answer) (x y : List ℕ) → Started bs img a x → Started bs img b y → (a ≡ b) × (x ≡ y)
+pub no-second-start : (bs img : List ℕ) (a b : Answer) (x y : List ℕ) → Started bs img a x → Started bs img b y
+    → (a ≡ b) × (x ≡ y)
 no-second-start bs img a b x y p q = (cc, cc)
 
-pub no-second-run : (bs img ws report : List ℕ) (a b : Answer) (x y u v : List ℕ) → Ran bs img ws report a x u → Ran bs img ws report b y v
+pub no-second-run : (bs img ws report : List ℕ) (a b : Answer) (x y u v : List ℕ) → Ran bs img ws report a x u
+    → Ran bs img ws report b y v
     → (a ≡ b) × (x ≡ y) × (u ≡ v)
 no-second-run bs img ws report a b x y u v p q = (cc, cc, cc)
 
-pub no-second-lookup : (report : List ℕ) (at : ℕ × ℕ) (n : ℕ) (x y : List ℕ) (i j : ℕ × ℕ) → Looked-up report at n x i → Looked-up report at n y j
+pub no-second-lookup : (report : List ℕ) (at : ℕ × ℕ) (n : ℕ) (x y : List ℕ) (i j : ℕ × ℕ) → Looked-up report at n x i
+    → Looked-up report at n y j
     → (x ≡ y) × (i .0 ≡ j .0) × (i .1 ≡ j .1)
 no-second-lookup report at n x y i j p q = (cc, cc, cc)
 
@@ -47,14 +51,16 @@ pub some-run : (bs img ws report : List ℕ)
     → Ran bs img ws report (run bs img ws report .answer) (run bs img ws report .image) (run bs img ws report .report)
 some-run bs img ws report = record { answer-is = refl; image-is = refl; report-is = refl }
 
-pub some-lookup : (report : List ℕ) (at : ℕ × ℕ) (n : ℕ) → Looked-up report at n (lookup report n) (at .0, at .1 + lookup-from report n)
+pub some-lookup : (report : List ℕ) (at : ℕ × ℕ) (n : ℕ)
+    → Looked-up report at n (lookup report n) (at .0, at .1 + lookup-from report n)
 some-lookup report at n = record { part-is = refl; block-is = refl; byte-is = refl }
 
 -- LOOKUP
 
 -- A cycle that the report holds whole is found, 24 bytes long, behind 24 bytes for each cycle before it.
 pub lookup-whole : (report : List ℕ) (n : ℕ) → 1 ≤ n → 24 * n ≤ length report
-    → (lookup report n ≡ take 24 (drop (24 * (n - 1)) report)) × (length (lookup report n) ≡ 24) × (lookup-from report n ≡ 24 * (n - 1))
+    → (lookup report n ≡ take 24 (drop (24 * (n - 1)) report)) × (length (lookup report n) ≡ 24)
+    × (lookup-from report n ≡ 24 * (n - 1))
 unfolding lookup lookup-from
 lookup-whole report n h l =
     let low : leb 1 n ≡ true = le-leb 1 n h in
@@ -63,7 +69,8 @@ lookup-whole report n h l =
     (found, ap length found ∙ simp (length-take, length-drop) (omega arith), rw (low, held))
 
 -- No other is.
-pub lookup-none : (report : List ℕ) (n : ℕ) → (n < 1) ⊎ (length report < 24 * n) → (lookup report n ≡ []) × (lookup-from report n ≡ 0)
+pub lookup-none : (report : List ℕ) (n : ℕ) → (n < 1) ⊎ (length report < 24 * n)
+    → (lookup report n ≡ []) × (lookup-from report n ≡ 0)
 unfolding lookup lookup-from
 lookup-none report n (inl h) = (rw (lt-leb 1 n h), rw (lt-leb 1 n h))
 lookup-none report n (inr h) =
@@ -71,8 +78,10 @@ lookup-none report n (inr h) =
     (rw (short, and-false), rw (short, and-false))
 
 -- Of so many steps, any number fewer can be taken first; another word is left then, and its cycle is not refused.
-pub fewer-steps : (tb : Table) {ws img left img′ bytes : List ℕ} {n : ℕ} → Steps tb ws img n left img′ bytes → (k : ℕ) → k < n
-    → (w : ℕ) × (later : List ℕ) × (here : List ℕ) × (before : List ℕ) × Steps tb ws img k (w ∷ later) here before × Stays tb here w
+pub fewer-steps : (tb : Table) {ws img left img′ bytes : List ℕ} {n : ℕ} → Steps tb ws img n left img′ bytes → (k : ℕ)
+    → k < n
+    → (w : ℕ) × (later : List ℕ) × (here : List ℕ) × (before : List ℕ) × Steps tb ws img k (w ∷ later) here before
+    × Stays tb here w
 fewer-steps tb Steps.none k h = absurd (not-suc-le-zero h)
 fewer-steps tb (Steps.more {w} {n} {ws} {img} s r) zero h = (w, ws, img, [], Steps.none, s)
 fewer-steps tb (Steps.more {w} {n} {ws} {img} s r) (suc k) h =
@@ -80,7 +89,8 @@ fewer-steps tb (Steps.more {w} {n} {ws} {img} s r) (suc k) h =
     (x .0, x .1, x .2, cycle tb img w .written ++ x .3, Steps.more s (x .4), x .5)
 
 -- The bytes of these fewer steps come first, and the next cycle's record behind them.
-next-record : (tb : Table) {ws img left img′ bytes later here before : List ℕ} {n k w : ℕ} → Steps tb ws img n left img′ bytes
+next-record : (tb : Table) {ws img left img′ bytes later here before : List ℕ} {n k w : ℕ}
+    → Steps tb ws img n left img′ bytes
     → Steps tb ws img k (w ∷ later) here before → k < n
     → (behind : List ℕ) × (bytes ≡ before ++ (cycle tb here w .written ++ behind))
 next-record tb Steps.none q h = absurd (not-suc-le-zero h)
@@ -90,8 +100,10 @@ next-record tb (Steps.more {w} {img = img} s r) (Steps.more {bytes = before} s�
     (x .0, ap (λ (l : List ℕ). cycle tb img w .written ++ l) (x .1) ∙ sym (append-assoc (cycle tb img w .written) before _))
 
 -- So after k cycles of a longer run, lookup of cycle k + 1 finds the record of the cycle that came next.
-pub lookup-next : (tb : Table) {ws img left img′ bytes later here before : List ℕ} {n k w : ℕ} → Steps tb ws img n left img′ bytes
-    → Steps tb ws img k (w ∷ later) here before → k < n → (rest : List ℕ) → lookup (bytes ++ rest) (suc k) ≡ cycle tb here w .written
+pub lookup-next : (tb : Table) {ws img left img′ bytes later here before : List ℕ} {n k w : ℕ}
+    → Steps tb ws img n left img′ bytes
+    → Steps tb ws img k (w ∷ later) here before → k < n → (rest : List ℕ)
+    → lookup (bytes ++ rest) (suc k) ≡ cycle tb here w .written
 lookup-next tb {bytes = bytes} {here = here} {before = before} {k = k} {w = w} r q h rest =
     let x = next-record tb r q h in
     let this = cycle tb here w .written in
@@ -103,9 +115,11 @@ lookup-next tb {bytes = bytes} {here = here} {before = before} {k = k} {w = w} r
     ∙ take-at this (x .0 ++ rest) 24 (cycle-length tb here w)
 
 -- Lookup of each finished cycle of a run, counted from 1, finds that cycle's record: k - 1 cycles come first.
-pub lookup-cycle : (tb : Table) {ws img left img′ bytes : List ℕ} {n : ℕ} → Steps tb ws img n left img′ bytes → (rest : List ℕ) (k : ℕ) → 1 ≤ k
+pub lookup-cycle : (tb : Table) {ws img left img′ bytes : List ℕ} {n : ℕ} → Steps tb ws img n left img′ bytes
+    → (rest : List ℕ) (k : ℕ) → 1 ≤ k
     → k ≤ n
-    → (w : ℕ) × (later : List ℕ) × (here : List ℕ) × (before : List ℕ) × Steps tb ws img (k - 1) (w ∷ later) here before × Stays tb here w
+    → (w : ℕ) × (later : List ℕ) × (here : List ℕ) × (before : List ℕ)
+    × Steps tb ws img (k - 1) (w ∷ later) here before × Stays tb here w
     × (lookup (bytes ++ rest) k ≡ cycle tb here w .written)
 lookup-cycle tb {bytes = bytes} r rest k h l =
     let x = fewer-steps tb r (k - 1) (omega arith) in
@@ -115,7 +129,8 @@ lookup-cycle tb {bytes = bytes} r rest k h l =
 -- And so in the report that a run leaves, for each of its cycles done.
 pub lookup-run : (bs img ws report : List ℕ) → verdict bs img ws report .number ≡ 0 → (k : ℕ) → 1 ≤ k
     → k ≤ run bs img ws report .answer .cycles
-    → (w : ℕ) × (later : List ℕ) × (here : List ℕ) × (before : List ℕ) × Steps (table bs) (words ws) img (k - 1) (w ∷ later) here before
+    → (w : ℕ) × (later : List ℕ) × (here : List ℕ) × (before : List ℕ)
+    × Steps (table bs) (words ws) img (k - 1) (w ∷ later) here before
     × Stays (table bs) here w
     × (lookup (run bs img ws report .report) k ≡ cycle (table bs) here w .written)
 lookup-run bs img ws report z k h l =

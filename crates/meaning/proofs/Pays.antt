@@ -1,5 +1,6 @@
--- The start marking pays for all that the fired set takes: any two fired transitions that take from one place are comparable in the closed
--- priority, so one of them is lowest, and its residual marking was already less by all the others.
+-- The start marking pays for all that the fired set takes: any two fired transitions that take from one place are
+-- comparable in the closed priority, so one of them is lowest, and its residual marking was already less by all the
+-- others.
 use mathlib.Core.Bool.{Bool, true, false, cond, not, _&&_, _||_, Bool·beq}
 use mathlib.Core.Path.{_≡_, refl, sym, ap, _∙_, subst}
 use mathlib.Core.Logic.{_⊎_, inl, inr, ⊎-elim}
@@ -55,7 +56,8 @@ alike false true e = e
 alike false false e = refl
 
 -- A condition of a firable transition stands in the word as its sort asks.
-pub condition-met : (tb : Table) (word t : ℕ) → as-wanted tb word t ≡ true → (r : ℕ) → r < tb .records → is tb 4 r ≡ true
+pub condition-met : (tb : Table) (word t : ℕ) → as-wanted tb word t ≡ true → (r : ℕ) → r < tb .records
+    → is tb 4 r ≡ true
     → tb .one r ≡ t → bit word (tb .two r) ≡ eqb (tb .sort r) 0
 unfolding as-wanted
 condition-met tb word t e r h k o =
@@ -65,7 +67,8 @@ condition-met tb word t e r h k o =
     strip p q = rw p at q
 
 -- Two firable transitions do not want one condition in two ways.
-pub not-complementary : (tb : Table) → Well tb → (word i j : ℕ) → as-wanted tb word i ≡ true → as-wanted tb word j ≡ true
+pub not-complementary : (tb : Table) → Well tb → (word i j : ℕ) → as-wanted tb word i ≡ true
+    → as-wanted tb word j ≡ true
     → complementary tb i j ≡ true → ⊥
 unfolding complementary
 not-complementary tb well word i j wi wj e =
@@ -94,7 +97,8 @@ not-complementary tb well word i j wi wj e =
     low (suc a) (suc b) ha hb e = omega arith
 
 -- Two transitions enabled by one marking are not told apart by an inhibitor arc.
-pub not-inhibited : (tb : Table) (m : ℕ → ℕ) (i j : ℕ) → enabled tb m i ≡ true → enabled tb m j ≡ true → inhibited tb i j ≡ true → ⊥
+pub not-inhibited : (tb : Table) (m : ℕ → ℕ) (i j : ℕ) → enabled tb m i ≡ true → enabled tb m j ≡ true
+    → inhibited tb i j ≡ true → ⊥
 unfolding inhibited
 not-inhibited tb m i j ei ej e =
     let x = two-elim (tb .records) _ _ e in
@@ -177,7 +181,8 @@ pub part : (a b : Bool) (w : ℕ) → (a ≡ true → b ≡ true) → cond a w 0
 part true b w f = rw (f refl) (omega arith)
 part false b w f = omega arith
 
--- Over an accepted table, a state after its falling edge, a word, a set that meets definition 6, and a height that falls along the priority.
+-- Over an accepted table, a state after its falling edge, a word, a set that meets definition 6, and a height that
+-- falls along the priority.
 module _ (tb : Table) (well : Well tb) (s : State) (word : ℕ) (F : ℕ → Bool) (meets : Meets tb s word F) (h : ℕ → ℕ)
     (falls : (u t : ℕ) → u < 64 → t < 64 → above tb u t ≡ true → h u < h t) where
   -- A fired transition is firable, and enabled by its residual marking.
@@ -190,7 +195,8 @@ module _ (tb : Table) (well : Well tb) (s : State) (word : ℕ) (F : ℕ → Boo
   fired-residual t e = and-right (firable tb s word t) _ (sym (meets t) ∙ e)
 
   -- A settled pair of fired transitions is settled by priority.
-  by-priority : (i j : ℕ) → F i ≡ true → F j ≡ true → settled tb i j ≡ true → (above tb i j ≡ true) ⊎ (above tb j i ≡ true)
+  by-priority : (i j : ℕ) → F i ≡ true → F j ≡ true → settled tb i j ≡ true
+      → (above tb i j ≡ true) ⊎ (above tb j i ≡ true)
   unfolding settled
   by-priority i j fi fj e =
       let ei = firable-enabled tb s word i (fired-firable i fi) in
@@ -210,7 +216,8 @@ module _ (tb : Table) (well : Well tb) (s : State) (word : ℕ) (F : ℕ → Boo
       (or-cases (above tb i j || above tb j i || complementary tb i j || inhibited tb i j) (inhibited tb j i) e)
 
   -- Two fired transitions that take from one place are comparable.
-  comparable : (i j : ℕ) → i < 64 → j < 64 → (i ≡ j → ⊥) → F i ≡ true → F j ≡ true → conflict tb i j ≡ true → conflict tb j i ≡ true
+  comparable : (i j : ℕ) → i < 64 → j < 64 → (i ≡ j → ⊥) → F i ≡ true → F j ≡ true → conflict tb i j ≡ true
+      → conflict tb j i ≡ true
       → (above tb i j ≡ true) ⊎ (above tb j i ≡ true)
   comparable i j li lj apart fi fj c d =
       ⊎-elim (λ (l : ltb i j ≡ true). by-priority i j fi fj (well .settles i j li lj (ltb-true i j l) c))
@@ -253,7 +260,8 @@ module _ (tb : Table) (well : Well tb) (s : State) (word : ℕ) (F : ℕ → Boo
       nothing f = omega (arith, sum-zero (tb .records) (λ r. cond (taking p r) (tb .four r) 0) (λ k l. rw (f k l)))
 
       lowest : (r : ℕ) × (r < tb .records) × (taking p r ≡ true)
-          × ((k : ℕ) → k < tb .records → taking p k ≡ true → h (tb .two k) ≤ h (tb .two r)) → withdrawn tb F p ≤ s .tokens p
+          × ((k : ℕ) → k < tb .records → taking p k ≡ true → h (tb .two k) ≤ h (tb .two r))
+          → withdrawn tb F p ≤ s .tokens p
       lowest x =
           let r = x .0 in
           let t = tb .two r in

@@ -1,4 +1,5 @@
--- Tests that decide: a test is true exactly if a statement holds, and so for `and`, `or`, `not`, `some` and comparisons of such tests.
+-- Tests that decide: a test is true exactly if a statement holds, and so for `and`, `or`, `not`, `some` and
+-- comparisons of such tests.
 use mathlib.Core.Bool.{Bool, true, false, not, _&&_, _||_}
 use mathlib.Core.Path.{_≡_, ap}
 use mathlib.Core.Logic.{_↔_, _⊎_, inl, inr, ⊎-elim}

@@ -1,5 +1,6 @@
--- The rising edge is what its rules say, in both directions: firable and fired (definitions 5 and 6), the new marking (rule 7), reset orders
--- (rule 8), functions (rule 9), and 13. Sums over records are taken record by record, and so are the weights that the rules add up.
+-- The rising edge is what its rules say, in both directions: firable and fired (definitions 5 and 6), the new marking
+-- (rule 7), reset orders (rule 8), functions (rule 9), and 13. Sums over records are taken record by record, and so
+-- are the weights that the rules add up.
 use mathlib.Core.Bool.{Bool, true, false, cond, not, _&&_, _||_, Bool·beq}
 use mathlib.Core.Logic.{_↔_, _⊎_, inl, inr, ⊎-elim}
 use mathlib.Core.Path.{_≡_, refl, sym, ap, _∙_, subst, fun-ext}
@@ -37,7 +38,8 @@ module _ (tb : Table) (s p : ℕ) (F : ℕ → Bool) (Of : ℕ → Type 0) (deci
       (λ w. (w .0 .0 .0, w .0 .0 .1, w .0 .1, w .1))
       (λ w. (((w .0, w .1), w .2), w .3))
 
-  sum-weighs : (n : ℕ) → Weighs tb s p Of n (sum n (λ r. cond (arc tb s r && eqb (tb .one r) p && F (tb .two r)) (tb .four r) 0))
+  sum-weighs : (n : ℕ)
+      → Weighs tb s p Of n (sum n (λ r. cond (arc tb s r && eqb (tb .one r) p && F (tb .two r)) (tb .four r) 0))
   unfolding sum
   sum-weighs zero = Weighs.none
   sum-weighs (suc n) =
@@ -48,13 +50,16 @@ module _ (tb : Table) (s p : ℕ) (F : ℕ → Bool) (Of : ℕ → Type 0) (deci
       rw (e, add-zero) (Weighs.passes (λ a. not-both (arc-counts n .1 a) e) (sum-weighs n)))
       (either (arc tb s n && eqb (tb .one n) p && F (tb .two n)))
 
-  weighs-sum : {n w : ℕ} → Weighs tb s p Of n w → sum n (λ r. cond (arc tb s r && eqb (tb .one r) p && F (tb .two r)) (tb .four r) 0) ≡ w
+  weighs-sum : {n w : ℕ} → Weighs tb s p Of n w
+      → sum n (λ r. cond (arc tb s r && eqb (tb .one r) p && F (tb .two r)) (tb .four r) 0) ≡ w
   unfolding sum
   weighs-sum Weighs.none = refl
   weighs-sum (Weighs.counts {n} a h) = rw (arc-counts n .1 a, weighs-sum h)
   weighs-sum (Weighs.passes {n} {w} a h) = rw (refuted (arc-counts n) a, weighs-sum h) (add-zero w)
 
-  pub weighs-is : (w : ℕ) → (total tb (λ r. arc tb s r && eqb (tb .one r) p && F (tb .two r)) (tb .four) ≡ w) ↔ Weighs tb s p Of (tb .records) w
+  pub weighs-is : (w : ℕ)
+      → (total tb (λ r. arc tb s r && eqb (tb .one r) p
+      && F (tb .two r)) (tb .four) ≡ w) ↔ Weighs tb s p Of (tb .records) w
   unfolding total
   weighs-is w = (λ e. subst (Weighs tb s p Of (tb .records)) e (sum-weighs (tb .records)), weighs-sum)
 
@@ -90,7 +95,8 @@ module _ (tb : Table) (m : ℕ → ℕ) (F : ℕ → Bool) (t : ℕ) where
 module _ (tb : Table) (sound : Sound-table tb) where
   -- DEFINITION 5: conditions as wanted, in time, firable.
   pub as-wanted-is : (word t : ℕ)
-      → Decides (as-wanted tb word t) (((c : ℕ) → Wanted tb t c 0 → True-in word c) × ((c : ℕ) → Wanted tb t c 1 → ¬ True-in word c))
+      → Decides (as-wanted tb word t) (((c : ℕ) → Wanted tb t c 0 → True-in word c)
+      × ((c : ℕ) → Wanted tb t c 1 → ¬ True-in word c))
   unfolding as-wanted
   as-wanted-is word t = (to, from)
     where
@@ -106,7 +112,8 @@ module _ (tb : Table) (sound : Sound-table tb) where
       same false true e = e
       same false false e = refl
 
-      to : every (tb .records) met ≡ true → ((c : ℕ) → Wanted tb t c 0 → True-in word c) × ((c : ℕ) → Wanted tb t c 1 → ¬ True-in word c)
+      to : every (tb .records) met ≡ true
+          → ((c : ℕ) → Wanted tb t c 0 → True-in word c) × ((c : ℕ) → Wanted tb t c 1 → ¬ True-in word c)
       to e = (
         λ c (r, l, k, o, q, s).
             let here : bit word (tb .two r) ≡ eqb (tb .sort r) 0 = same _ _ (sym (asked r k o) ∙ every-elim (tb .records) met e r l) in
@@ -117,7 +124,8 @@ module _ (tb : Table) (sound : Sound-table tb) where
             not-both (condition-is word c .1 on) (rw q at (here ∙ false-here)),
       )
 
-      from : ((c : ℕ) → Wanted tb t c 0 → True-in word c) × ((c : ℕ) → Wanted tb t c 1 → ¬ True-in word c) → every (tb .records) met ≡ true
+      from : ((c : ℕ) → Wanted tb t c 0 → True-in word c) × ((c : ℕ) → Wanted tb t c 1 → ¬ True-in word c)
+          → every (tb .records) met ≡ true
       from (wants, shuns) =
           every-intro (tb .records) met
           (λ r l.
@@ -125,7 +133,8 @@ module _ (tb : Table) (sound : Sound-table tb) where
           (λ n. or-true-left _ (ap not (refuted (and-decides (eq-decides (tb .kind r) 4) (eq-decides (tb .one r) t)) n)))
           (decided (and-decides (eq-decides (tb .kind r) 4) (eq-decides (tb .one r) t))))
         where
-          wanted : (r : ℕ) → r < tb .records → tb .kind r ≡ 4 → tb .one r ≡ t → Bool·beq (bit word (tb .two r)) (eqb (tb .sort r) 0) ≡ true
+          wanted : (r : ℕ) → r < tb .records → tb .kind r ≡ 4 → tb .one r ≡ t
+              → Bool·beq (bit word (tb .two r)) (eqb (tb .sort r) 0) ≡ true
           wanted r l k o =
               up-to-1 (λ s. tb .sort r ≡ s → Bool·beq (bit word (tb .two r)) (eqb (tb .sort r) 0) ≡ true)
               (λ s. rw (s, condition-is word (tb .two r) .1 (wants (tb .two r) (r, l, k, o, refl, s))))
@@ -203,7 +212,8 @@ module _ (tb : Table) (sound : Sound-table tb) where
       (λ f. (f .firable, f .enabled-by-the-rest (residual tb (s .tokens) F t) (residual-is tb (s .tokens) F t)))
 
   -- RULE 7: the new marking, of a set that M pays for.
-  pub marked-is : (m : ℕ → ℕ) (F : ℕ → Bool) (p : ℕ) → withdrawn tb F p ≤ m p → (x : ℕ) → (marked tb m F p ≡ x) ↔ Marked tb m F p x
+  pub marked-is : (m : ℕ → ℕ) (F : ℕ → Bool) (p : ℕ) → withdrawn tb F p ≤ m p → (x : ℕ)
+      → (marked tb m F p ≡ x) ↔ Marked tb m F p x
   unfolding marked
   marked-is m F p paid x = (
     λ e.
@@ -246,9 +256,11 @@ module _ (tb : Table) (sound : Sound-table tb) where
       Sort : ℕ → Type 0
       Sort r = ((tb .kind r ≡ 3) × (tb .sort r ≡ 0)) ⊎ ((tb .kind r ≡ 3) × (tb .sort r ≡ 1))
 
-      back : (h : Starved tb m F t) (s : ℕ) → ((r : ℕ) → tb .kind r ≡ 3 → tb .sort r ≡ s → Sort r) → Arc tb s (h .place) t (h .weight)
+      back : (h : Starved tb m F t) (s : ℕ) → ((r : ℕ) → tb .kind r ≡ 3 → tb .sort r ≡ s → Sort r)
+          → Arc tb s (h .place) t (h .weight)
           → (r : ℕ) × (r < tb .records)
-          × ((Sort r × (tb .two r ≡ t)) × ((0 < withdrawn tb F (tb .one r)) × (m (tb .one r) - withdrawn tb F (tb .one r) < tb .four r)))
+          × ((Sort r × (tb .two r ≡ t))
+          × ((0 < withdrawn tb F (tb .one r)) × (m (tb .one r) - withdrawn tb F (tb .one r) < tb .four r)))
       back h s f (r, l, k, q, o, e, w) =
           let taken : withdrawn tb F (tb .one r) ≡ h .taken = ap (withdrawn tb F) o ∙ withdrawn-is tb F (h .place) (h .taken) .1 (h .takes) in
           let here : m (tb .one r) ≡ m (h .place) = ap m o in

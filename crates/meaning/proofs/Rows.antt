@@ -1,4 +1,5 @@
--- The tests behind answers 5 to 9 decide what their rows say: each asks whether records with such columns are there, and so does its row.
+-- The tests behind answers 5 to 9 decide what their rows say: each asks whether records with such columns are there,
+-- and so does its row.
 use mathlib.Core.Bool.{Bool, not, _&&_}
 use mathlib.Core.Path.{_≡_, refl, sym, _∙_}
 use mathlib.Core.Logic.{_≢_, _⊎_, inl, inr, ⊎-elim}
@@ -100,7 +101,8 @@ lone-transition-decides tb t =
     (λ n a. n (tb .sort (a .0)) (tb .one (a .0)) (tb .four (a .0)) (a .0, a .1, a .2 .0, refl, refl, a .2 .1, refl)))
 
 -- 9: some record passes, and with it another.
-some-two-decides : (n : ℕ) {p : ℕ → Bool} {q : ℕ → ℕ → Bool} {P : ℕ → Type 0} {Q : ℕ → ℕ → Type 0} → ((r : ℕ) → Decides (p r) (P r))
+some-two-decides : (n : ℕ) {p : ℕ → Bool} {q : ℕ → ℕ → Bool} {P : ℕ → Type 0} {Q : ℕ → ℕ → Type 0}
+    → ((r : ℕ) → Decides (p r) (P r))
     → ((r s : ℕ) → Decides (q r s) (Q r s))
     → Decides (some-two n p q) ((r : ℕ) × (r < n) × (P r × ((s : ℕ) × (s < n) × Q r s)))
 unfolding some-two
@@ -140,7 +142,8 @@ Complementary tb i j = ((c : ℕ) × Wanted tb i c 0 × Wanted tb j c 1) ⊎ ((c
 abbrev pub Inhibited : Table → ℕ → ℕ → Type 0
 Inhibited tb i j = (p : ℕ) × (w : ℕ) × (Arc tb 0 p i w ⊎ Arc tb 1 p i w) × Arc tb 2 p j w
 
--- A condition wanted true by one and false by the other, either way round; records that the page shows have no other sorts.
+-- A condition wanted true by one and false by the other, either way round; records that the page shows have no other
+-- sorts.
 pub complementary-decides : (tb : Table) (i j : ℕ) → ((r : ℕ) → r < tb .records → Shows tb r)
     → Decides (complementary tb i j) (Complementary tb i j)
 unfolding complementary
@@ -157,7 +160,8 @@ complementary-decides tb i j shown =
     sorts (w .0) (w .1) (a .0) (a .1) (b .0) (b .1) (b .2 .0 .0 .0) (b .2 .0 .0 .1) (b .2 .0 .1) (b .2 .1))
     (⊎-elim (λ c. back 0 1 (omega arith) (c .0) (c .1) (c .2)) (λ c. back 1 0 (omega arith) (c .0) (c .1) (c .2)))
   where
-    sorts : (r : ℕ) → r < tb .records → tb .kind r ≡ 4 → tb .one r ≡ i → (s : ℕ) → s < tb .records → tb .kind s ≡ 4 → tb .one s ≡ j
+    sorts : (r : ℕ) → r < tb .records → tb .kind r ≡ 4 → tb .one r ≡ i → (s : ℕ) → s < tb .records → tb .kind s ≡ 4
+        → tb .one s ≡ j
         → tb .two s ≡ tb .two r → ¬ (tb .sort s ≡ tb .sort r)
         → Complementary tb i j
     sorts r l k o s m q p t n =
@@ -210,12 +214,14 @@ inhibited-decides tb i j =
     (λ c. ⊎-elim (λ a. back 0 c (λ r k s. inl (k, s)) a) (λ a. back 1 c (λ r k s. inr (k, s)) a) (c .2))
   where
     back : (x : ℕ) (c : Inhibited tb i j)
-        → ((r : ℕ) → tb .kind r ≡ 3 → tb .sort r ≡ x → ((tb .kind r ≡ 3) × (tb .sort r ≡ 0)) ⊎ ((tb .kind r ≡ 3) × (tb .sort r ≡ 1)))
+        → ((r : ℕ) → tb .kind r ≡ 3 → tb .sort r ≡ x
+        → ((tb .kind r ≡ 3) × (tb .sort r ≡ 0)) ⊎ ((tb .kind r ≡ 3) × (tb .sort r ≡ 1)))
         → Arc tb x (c .0) i (c .1)
         → (r : ℕ) × (r < tb .records)
         × (((((tb .kind r ≡ 3) × (tb .sort r ≡ 0)) ⊎ ((tb .kind r ≡ 3) × (tb .sort r ≡ 1))) × (tb .two r ≡ i))
         × ((s : ℕ) × (s < tb .records)
-        × (((((tb .kind s ≡ 3) × (tb .sort s ≡ 2)) × (tb .two s ≡ j)) × (tb .one s ≡ tb .one r)) × (tb .four s ≡ tb .four r))))
+        × (((((tb .kind s ≡ 3) × (tb .sort s ≡ 2)) × (tb .two s ≡ j)) × (tb .one s ≡ tb .one r))
+        × (tb .four s ≡ tb .four r))))
     back x c f a =
         let b = c .3 in (
           a .0,
@@ -224,7 +230,8 @@ inhibited-decides tb i j =
         )
 
 -- One of the three ways settles a pair.
-pub settled-decides : (tb : Table) (i j : ℕ) → ((r : ℕ) → r < tb .records → Shows tb r) → Decides (settled tb i j) (Settled tb i j)
+pub settled-decides : (tb : Table) (i j : ℕ) → ((r : ℕ) → r < tb .records → Shows tb r)
+    → Decides (settled tb i j) (Settled tb i j)
 unfolding settled
 settled-decides tb i j shown =
     recast
@@ -242,7 +249,8 @@ settled-decides tb i j shown =
     to (inl (inr c)) = Settled.inhibits (c .0) (c .1) (c .2) (c .3)
     to (inr c) = Settled.inhibited (c .0) (c .1) (c .2) (c .3)
 
-    from : Settled tb i j → (((Above tb i j ⊎ Above tb j i) ⊎ Complementary tb i j) ⊎ Inhibited tb i j) ⊎ Inhibited tb j i
+    from : Settled tb i j
+        → (((Above tb i j ⊎ Above tb j i) ⊎ Complementary tb i j) ⊎ Inhibited tb i j) ⊎ Inhibited tb j i
     from (Settled.higher a) = inl (inl (inl (inl a)))
     from (Settled.lower a) = inl (inl (inl (inr a)))
     from (Settled.wants c a b) = inl (inl (inr (inl (c, a, b))))

@@ -1,4 +1,5 @@
--- A run is exactly its definition steps: `trace` takes one cycle a word, and a cycle is refused exactly where the first overfull place is found.
+-- A run is exactly its definition steps: `trace` takes one cycle a word, and a cycle is refused exactly where the
+-- first overfull place is found.
 use mathlib.Core.Bool.{Bool, true, false, cond}
 use mathlib.Core.List.{List, [], _∷_, _++_, append-assoc, append-nil}
 use mathlib.Core.Logic.{_⊎_, inl, inr, ⊎-elim}
@@ -54,7 +55,8 @@ ending t n bs = record { number = t .number; at = t .at; cycles = n; image = t .
 
 -- Steps taken are the front of the trace, and the trace of what is left is its rest.
 trace-after : (tb : Table) {ws img left img′ bytes : List ℕ} {n : ℕ} → Steps tb ws img n left img′ bytes
-    → trace tb ws img ≡ ending (trace tb left img′) (n + trace tb left img′ .cycles) (bytes ++ trace tb left img′ .written)
+    → trace tb ws img ≡ ending (trace tb left img′) (n + trace tb left img′ .cycles) (bytes
+    ++ trace tb left img′ .written)
 unfolding trace
 trace-after tb {ws} {img} Steps.none =
     let t = trace tb ws img in
@@ -71,7 +73,8 @@ unfolding trace
 trace-finishes tb {bytes = bytes} r = trace-after tb r ∙ ap₂ (ending (trace tb [] _)) (omega arith) (append-nil bytes)
 
 -- The next cycle bursts at p: the run is stopped there by 13, and keeps what the finished cycles left.
-pub trace-bursts : (tb : Table) {ws img left img′ bytes : List ℕ} {n w p : ℕ} → Steps tb ws img n (w ∷ left) img′ bytes → Bursts tb img′ w p
+pub trace-bursts : (tb : Table) {ws img left img′ bytes : List ℕ} {n w p : ℕ}
+    → Steps tb ws img n (w ∷ left) img′ bytes → Bursts tb img′ w p
     → trace tb ws img ≡ record { number = 13; at = p; cycles = n; image = img′; written = bytes }
 unfolding trace
 trace-bursts tb {img′ = img′} {bytes = bytes} {w = w} {p = p} r b =
@@ -112,7 +115,8 @@ pub cycle-length : (tb : Table) (img : List ℕ) (w : ℕ) → length (cycle tb 
 unfolding cycle record-of
 cycle-length tb img w = simp (length-append, bytes-length)
 
-pub written-length : (tb : Table) {ws img left img′ bytes : List ℕ} {n : ℕ} → Steps tb ws img n left img′ bytes → length bytes ≡ 24 * n
+pub written-length : (tb : Table) {ws img left img′ bytes : List ℕ} {n : ℕ} → Steps tb ws img n left img′ bytes
+    → length bytes ≡ 24 * n
 written-length tb Steps.none = refl
 written-length tb (Steps.more {w} {n} {ws} {img} {left} {img′} {bytes} h r) =
     length-append (cycle tb img w .written) bytes ∙ omega (arith, cycle-length tb img w, written-length tb r)
@@ -133,7 +137,8 @@ trace-0 tb ws img e =
     (trace-ends tb ws img)
 
 pub trace-13 : (tb : Table) (ws img : List ℕ) → trace tb ws img .number ≡ 13
-    → (n : ℕ) × (w : ℕ) × (left : List ℕ) × (img′ : List ℕ) × (bytes : List ℕ) × (p : ℕ) × Steps tb ws img n (w ∷ left) img′ bytes
+    → (n : ℕ) × (w : ℕ) × (left : List ℕ) × (img′ : List ℕ) × (bytes : List ℕ) × (p : ℕ)
+    × Steps tb ws img n (w ∷ left) img′ bytes
     × Bursts tb img′ w p
     × (trace tb ws img ≡ record { number = 13; at = p; cycles = n; image = img′; written = bytes })
 trace-13 tb ws img e =
@@ -159,7 +164,8 @@ start-refused-leaves bs img h = go (eqb (answer .number) 0) refl h
     go false e f = refl
 
 -- An accepted one leaves the fresh net's image.
-pub start-accepted-leaves : (bs img : List ℕ) → start bs img .answer .number ≡ 0 → start bs img .image ≡ image-bytes (fresh (table bs))
+pub start-accepted-leaves : (bs img : List ℕ) → start bs img .answer .number ≡ 0
+    → start bs img .image ≡ image-bytes (fresh (table bs))
 unfolding start
 start-accepted-leaves bs img h = go (eqb (answer .number) 0) refl h
   where
@@ -169,7 +175,8 @@ start-accepted-leaves bs img h = go (eqb (answer .number) 0) refl h
     left : Bool → Start
     left b = cond b (record { answer = answer; image = image-bytes (fresh (table bs)) }) (record { answer = answer; image = img })
 
-    go : (b : Bool) → eqb (answer .number) 0 ≡ b → left b .answer .number ≡ 0 → left b .image ≡ image-bytes (fresh (table bs))
+    go : (b : Bool) → eqb (answer .number) 0 ≡ b → left b .answer .number ≡ 0
+        → left b .image ≡ image-bytes (fresh (table bs))
     go true e f = refl
     go false e f = absurd (eqb-false (answer .number) 0 e f)
 
@@ -181,7 +188,8 @@ verdict bs img ws report = decide (run-checks bs img ws report) (accepted 0)
 abbrev pub words : List ℕ → List ℕ
 words ws = words-of (length ws / 8) ws
 
--- What a run leaves: this answer and image, and a report that begins with these bytes and is as it was behind 24 bytes a cycle.
+-- What a run leaves: this answer and image, and a report that begins with these bytes and is as it was behind 24
+-- bytes a cycle.
 abbrev pub Leaves : List ℕ → List ℕ → List ℕ → List ℕ → Answer → List ℕ → List ℕ → Type 0
 Leaves bs img ws report answer img′ bytes =
     (run bs img ws report .answer ≡ answer) × (run bs img ws report .image ≡ img′)
@@ -202,12 +210,14 @@ module _ (bs img ws report : List ℕ) where
       (ap (λ (r : Run). r .image) e, ap (λ (r : Run). r .report) e, ap (λ (r : Run). r .answer) e)
 
   -- Checks that pass hand over to the words' cycles.
-  pub run-goes-on : verdict bs img ws report .number ≡ 0 → run bs img ws report ≡ ran (trace (table bs) (words ws) img) report
+  pub run-goes-on : verdict bs img ws report .number ≡ 0
+      → run bs img ws report ≡ ran (trace (table bs) (words ws) img) report
   unfolding run
   run-goes-on h = rw (eq-eqb (verdict bs img ws report .number) 0 h)
 
   -- A run whose number its checks do not give went on.
-  went-on : (k : ℕ) → run bs img ws report .answer .number ≡ k → (verdict bs img ws report .number ≡ k → verdict bs img ws report .number ≡ 0)
+  went-on : (k : ℕ) → run bs img ws report .answer .number ≡ k
+      → (verdict bs img ws report .number ≡ k → verdict bs img ws report .number ≡ 0)
       → verdict bs img ws report .number ≡ 0
   went-on k e f =
       ⊎-elim (λ (z : eqb (verdict bs img ws report .number) 0 ≡ true). eqb-true _ 0 z)
@@ -216,10 +226,12 @@ module _ (bs img ws report : List ℕ) where
       (either (eqb (verdict bs img ws report .number) 0))
 
   -- Its number is its trace's, and so is what it leaves.
-  went-number : verdict bs img ws report .number ≡ 0 → trace (table bs) (words ws) img .number ≡ run bs img ws report .answer .number
+  went-number : verdict bs img ws report .number ≡ 0
+      → trace (table bs) (words ws) img .number ≡ run bs img ws report .answer .number
   went-number z = rw (run-goes-on z)
 
-  went-leaves : verdict bs img ws report .number ≡ 0 → {k p n : ℕ} {left img′ bytes : List ℕ} → Steps (table bs) (words ws) img n left img′ bytes
+  went-leaves : verdict bs img ws report .number ≡ 0 → {k p n : ℕ} {left img′ bytes : List ℕ}
+      → Steps (table bs) (words ws) img n left img′ bytes
       → trace (table bs) (words ws) img ≡ record { number = k; at = p; cycles = n; image = img′; written = bytes }
       → Leaves bs img ws report (record { number = k; at = p; cycles = n }) img′ bytes
   went-leaves z r e = rw (run-goes-on z, e, written-length (table bs) r) (refl, refl, refl)
@@ -256,6 +268,7 @@ module _ (bs img ws report : List ℕ) where
 
 -- No words: accepted, and every byte is as it was.
 pub no-words : (bs img report : List ℕ) → verdict bs img [] report .number ≡ 0
-    → (run bs img [] report .answer ≡ accepted 0) × (run bs img [] report .image ≡ img) × (run bs img [] report .report ≡ report)
+    → (run bs img [] report .answer ≡ accepted 0) × (run bs img [] report .image ≡ img)
+    × (run bs img [] report .report ≡ report)
 unfolding words-of
 no-words bs img report z = went-leaves bs img [] report z Steps.none (trace-finishes (table bs) Steps.none)

@@ -1,5 +1,5 @@
--- Among records that the page shows, the test `same` decides whether two say the same thing: kind by kind, what the test compares is what
--- the page compares.
+-- Among records that the page shows, the test `same` decides whether two say the same thing: kind by kind, what the
+-- test compares is what the page compares.
 use mathlib.Core.Bool.{Bool, true, false, Bool·beq}
 use mathlib.Core.Path.{_≡_, refl, sym, _∙_, subst}
 use mathlib.Core.Logic.{_≢_, _⊎_, inl, inr, ⊎-elim}
@@ -44,7 +44,8 @@ pub shown-priority : {o t s f x : ℕ} → Shown 5 o t s f x → (o ≤ 63) × (
 shown-priority (Shown.priority a b) = (a, b)
 
 -- The same of a record whose kind is known.
-pub of-kind : (tb : Table) (r k : ℕ) → Shows tb r → tb .kind r ≡ k → Shown k (tb .one r) (tb .two r) (tb .sort r) (tb .four r) (tb .six r)
+pub of-kind : (tb : Table) (r k : ℕ) → Shows tb r → tb .kind r ≡ k
+    → Shown k (tb .one r) (tb .two r) (tb .sort r) (tb .four r) (tb .six r)
 of-kind tb r k h e = subst (λ (n : ℕ). Shown n (tb .one r) (tb .two r) (tb .sort r) (tb .four r) (tb .six r)) e h
 
 -- The test for two tests that are the same.
@@ -71,11 +72,13 @@ compares tb s r =
 
 module _ (tb : Table) (s r : ℕ) (shown-s : Shows tb s) (shown-r : Shows tb r) where
   -- Records of one kind that is not 3.
-  plain : (k : ℕ) → k ≢ 3 → tb .kind s ≡ k → tb .kind r ≡ k → tb .one s ≡ tb .one r → tb .two s ≡ tb .two r → same tb r s ≡ true
+  plain : (k : ℕ) → k ≢ 3 → tb .kind s ≡ k → tb .kind r ≡ k → tb .one s ≡ tb .one r → tb .two s ≡ tb .two r
+      → same tb r s ≡ true
   plain k n e f o t = compares tb s r .1 (((e ∙ sym f, o), t), inl (λ q. n (sym f ∙ q)))
 
   -- Arcs, both input arcs or both post arcs.
-  arcs : tb .kind s ≡ 3 → tb .kind r ≡ 3 → eqb (tb .sort s) 3 ≡ eqb (tb .sort r) 3 → tb .one s ≡ tb .one r → tb .two s ≡ tb .two r
+  arcs : tb .kind s ≡ 3 → tb .kind r ≡ 3 → eqb (tb .sort s) 3 ≡ eqb (tb .sort r) 3 → tb .one s ≡ tb .one r
+      → tb .two s ≡ tb .two r
       → same tb r s ≡ true
   arcs e f q o t = compares tb s r .1 (((e ∙ sym f, o), t), inr (post-is tb s e ∙ q ∙ sym (post-is tb r f)))
 
@@ -128,7 +131,8 @@ module _ (tb : Table) (s r : ℕ) (shown-s : Shows tb s) (shown-r : Shows tb r) 
           most-r : tb .sort r ≤ 3
           most-r = shown-arc (of-kind tb r 3 shown-r f) .2
 
-          sides : (eqb (tb .sort r) 3 ≡ true) ⊎ (eqb (tb .sort r) 3 ≡ false) → eqb (tb .sort s) 3 ≡ eqb (tb .sort r) 3 → Same tb s r
+          sides : (eqb (tb .sort r) 3 ≡ true) ⊎ (eqb (tb .sort r) 3 ≡ false) → eqb (tb .sort s) 3 ≡ eqb (tb .sort r) 3
+              → Same tb s r
           sides (inl p) q = Same.post-arc (k ∙ f) f (eqb-true _ 3 (q ∙ p)) (eqb-true _ 3 p) o t
           sides (inr p) q =
               let not-s = eqb-false (tb .sort s) 3 (q ∙ p) in

@@ -1,5 +1,5 @@
--- Firing one by one, in any order: a list whose takings together are paid for by a marking can be fired from the front, and the end depends
--- only on sums over the list, which no change of order changes.
+-- Firing one by one, in any order: a list whose takings together are paid for by a marking can be fired from the
+-- front, and the end depends only on sums over the list, which no change of order changes.
 use mathlib.Core.Bool.{Bool, true, false, cond, _&&_, _||_, or-false as or-false-law}
 use mathlib.Core.List.{List, [], _∷_, _++_}
 use mathlib.Core.Path.{_≡_, refl, sym, ap, _∙_}
@@ -51,7 +51,8 @@ module _ (tb : Table) (a : ℕ → Bool) (p : ℕ) where
       none false w = refl
 
   -- A set and one transition more move what both move.
-  moved-more : (F : ℕ → Bool) (t : ℕ) → F t ≡ false → moved tb a (λ u. F u || eqb t u) p ≡ moved tb a F p + moved tb a (λ u. eqb t u) p
+  moved-more : (F : ℕ → Bool) (t : ℕ) → F t ≡ false
+      → moved tb a (λ u. F u || eqb t u) p ≡ moved tb a F p + moved tb a (λ u. eqb t u) p
   unfolding total
   moved-more F t out =
       sum-same (tb .records) _ _
@@ -61,14 +62,16 @@ module _ (tb : Table) (a : ℕ → Bool) (p : ℕ) where
       apart : (u : ℕ) → F u ≡ true → eqb t u ≡ true → ⊥
       apart u f e = not-both f (ap F (sym (eqb-true t u e)) ∙ out)
 
-      each : (b x y : Bool) (w : ℕ) → (x ≡ true → y ≡ true → ⊥) → cond (b && (x || y)) w 0 ≡ cond (b && x) w 0 + cond (b && y) w 0
+      each : (b x y : Bool) (w : ℕ) → (x ≡ true → y ≡ true → ⊥)
+          → cond (b && (x || y)) w 0 ≡ cond (b && x) w 0 + cond (b && y) w 0
       each false x y w h = refl
       each true true true w h = absurd (h refl refl)
       each true true false w h = omega arith
       each true false y w h = omega arith
 
   -- A set of members moves the sum of what each moves.
-  pub moved-members : (n : ℕ) (q : ℕ → Bool) → moved tb a (within (members n q)) p ≡ over (λ t. moved tb a (λ u. eqb t u) p) (members n q)
+  pub moved-members : (n : ℕ) (q : ℕ → Bool)
+      → moved tb a (within (members n q)) p ≡ over (λ t. moved tb a (λ u. eqb t u) p) (members n q)
   unfolding members within over
   moved-members zero q = moved-none
   moved-members (suc n) q = go (q n) (moved-members n q)
@@ -93,7 +96,8 @@ module _ (tb : Table) (a : ℕ → Bool) (p : ℕ) where
 
 -- A list whose takings the marking pays for together is fired one by one, and ends where the sums say.
 pub fire-all : (tb : Table) (ts : List ℕ) (m : ℕ → ℕ) → ((p : ℕ) → over (λ t. takes tb t p) ts ≤ m p)
-    → (m′ : ℕ → ℕ) × One-by-one tb m ts m′ × ((p : ℕ) → m′ p ≡ m p - over (λ t. takes tb t p) ts + over (λ t. puts tb t p) ts)
+    → (m′ : ℕ → ℕ) × One-by-one tb m ts m′
+    × ((p : ℕ) → m′ p ≡ m p - over (λ t. takes tb t p) ts + over (λ t. puts tb t p) ts)
 unfolding over
 fire-all tb [] m h = (m, One-by-one.done, λ p. omega arith)
 fire-all tb (t ∷ ts) m h =
@@ -102,6 +106,7 @@ fire-all tb (t ∷ ts) m h =
     (rest .0, One-by-one.fire {m = m} {t = t} (λ p. omega (arith, h p)) (rest .1), λ p. omega (arith, h p, rest .2 p))
 
 -- From one marking, one order has one end.
-pub one-end : {tb : Table} {m x y : ℕ → ℕ} {ts : List ℕ} → One-by-one tb m ts x → One-by-one tb m ts y → (p : ℕ) → x p ≡ y p
+pub one-end : {tb : Table} {m x y : ℕ → ℕ} {ts : List ℕ} → One-by-one tb m ts x → One-by-one tb m ts y → (p : ℕ)
+    → x p ≡ y p
 one-end One-by-one.done One-by-one.done p = refl
 one-end (One-by-one.fire h a) (One-by-one.fire k b) p = one-end a b p

@@ -1,4 +1,5 @@
--- The tests of one record, 2 and 3, decide whether the table of kinds shows it: kind by kind, the row's limits are the constructors' bounds.
+-- The tests of one record, 2 and 3, decide whether the table of kinds shows it: kind by kind, the row's limits are
+-- the constructors' bounds.
 use mathlib.Core.Bool.{Bool, true, false, not, _&&_, _||_}
 use mathlib.Core.Path.{_≡_, refl, ap}
 use Prim.Native.Nat.{ℕ, zero, suc, _≤_}
@@ -129,7 +130,8 @@ six-false false false false false true f h = not-both refl h
 
 -- Fields that are not refused are within their kind's row.
 limits : (k o t s f x : ℕ) → bad-field (alone k o t s f x) 0 ≡ false
-    → (o ≤ kind-row (alone k o t s f x) 0 .one) × (t ≤ kind-row (alone k o t s f x) 0 .two) × (f ≤ kind-row (alone k o t s f x) 0 .four)
+    → (o ≤ kind-row (alone k o t s f x) 0 .one) × (t ≤ kind-row (alone k o t s f x) 0 .two)
+    × (f ≤ kind-row (alone k o t s f x) 0 .four)
     × (x ≤ kind-row (alone k o t s f x) 0 .six) × ((eqb k 3 && eqb f 0) ≡ false)
     × ((eqb k 2 && not (interval (alone k o t s f x) 0)) ≡ false)
 unfolding bad-field

@@ -1,5 +1,5 @@
--- What a table has that 1 to 9 do not refuse: each fact is a clean check's; and a column's sum over the records that declare x is that column
--- in the one record that does.
+-- What a table has that 1 to 9 do not refuse: each fact is a clean check's; and a column's sum over the records that
+-- declare x is that column in the one record that does.
 use mathlib.Core.Bool.{false, cond, not, _&&_}
 use mathlib.Core.List.{List}
 use mathlib.Core.Path.{_≡_, refl, sym, ap, _∙_}
@@ -118,17 +118,21 @@ module _ (tb : Table) (sound : Sound-table tb) where
           refutes (same-decides tb s r (sound .shown s l) (sound .shown r m)) (sound .single s r k m) q
 
   -- So a place, a transition is declared once.
-  pub place-once : (s r : ℕ) → s < tb .records → r < tb .records → tb .kind s ≡ 1 → tb .kind r ≡ 1 → tb .one s ≡ tb .one r → s ≡ r
+  pub place-once : (s r : ℕ) → s < tb .records → r < tb .records → tb .kind s ≡ 1 → tb .kind r ≡ 1
+      → tb .one s ≡ tb .one r → s ≡ r
   place-once s r l m e f o = same-record s r l m (Same.place e f o) (Same.place f e (sym o))
 
-  pub transition-once : (s r : ℕ) → s < tb .records → r < tb .records → tb .kind s ≡ 2 → tb .kind r ≡ 2 → tb .one s ≡ tb .one r → s ≡ r
+  pub transition-once : (s r : ℕ) → s < tb .records → r < tb .records → tb .kind s ≡ 2 → tb .kind r ≡ 2
+      → tb .one s ≡ tb .one r → s ≡ r
   transition-once s r l m e f o = same-record s r l m (Same.transition e f o) (Same.transition f e (sym o))
 
   -- Its columns are that record's.
-  pub place-column : (p : ℕ) (f : ℕ → ℕ) (r : ℕ) → r < tb .records → tb .kind r ≡ 1 → tb .one r ≡ p → declared tb 1 p f ≡ f r
+  pub place-column : (p : ℕ) (f : ℕ → ℕ) (r : ℕ) → r < tb .records → tb .kind r ≡ 1 → tb .one r ≡ p
+      → declared tb 1 p f ≡ f r
   place-column p f r l e o = declared-is tb 1 p f r l e o (λ s m q v. place-once s r m l q e (v ∙ sym o))
 
-  pub transition-column : (t : ℕ) (f : ℕ → ℕ) (r : ℕ) → r < tb .records → tb .kind r ≡ 2 → tb .one r ≡ t → declared tb 2 t f ≡ f r
+  pub transition-column : (t : ℕ) (f : ℕ → ℕ) (r : ℕ) → r < tb .records → tb .kind r ≡ 2 → tb .one r ≡ t
+      → declared tb 2 t f ≡ f r
   transition-column t f r l e o = declared-is tb 2 t f r l e o (λ s m q v. transition-once s r m l q e (v ∙ sym o))
 
   -- The record that declares a transition says its sort, a and b.

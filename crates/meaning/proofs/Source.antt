@@ -1,5 +1,5 @@
--- Stopping a sort 2 counter at a changes no firability: the stopped counter is the lesser of the source's and a, and firability asks only
--- whether it has reached a.
+-- Stopping a sort 2 counter at a changes no firability: the stopped counter is the lesser of the source's and a, and
+-- firability asks only whether it has reached a.
 use mathlib.Core.Bool.{Bool, true, false, cond, _&&_}
 use mathlib.Core.List.{List}
 use mathlib.Core.Logic.{⊎-elim}
@@ -40,8 +40,10 @@ module _ (tb : Table) (well : Well tb) where
         (go (enabled tb (z .tokens) t) (z .order t) (ltb (s .counter t) (a-of tb t)) refl lesser some-time)))
         (sorts (timing tb t) (well .timing-sort t))
       where
-        go : (on again low : Bool) → ltb (s .counter t) (a-of tb t) ≡ low → s .counter t ≡ min (z .counter t) (a-of tb t) → 1 ≤ a-of tb t
-            → cond on (cond again 1 (cond low (suc (s .counter t)) (s .counter t))) 0 ≡ min (cond on (cond again 1 (suc (z .counter t))) 0) (a-of tb t)
+        go : (on again low : Bool) → ltb (s .counter t) (a-of tb t) ≡ low
+            → s .counter t ≡ min (z .counter t) (a-of tb t) → 1 ≤ a-of tb t
+            → cond on (cond again 1 (cond low (suc (s .counter t)) (s .counter t))) 0 ≡ min
+            (cond on (cond again 1 (suc (z .counter t))) 0) (a-of tb t)
         go true true low e l o = omega arith
         go true false true e l o = omega (arith, ltb-true (s .counter t) (a-of tb t) e)
         go true false false e l o = omega (arith, ltb-false (s .counter t) (a-of tb t) e)
@@ -62,7 +64,8 @@ module _ (tb : Table) (well : Well tb) where
         rw e (ap (λ (b : Bool). b && true) (reached lesser))))
         (sorts (timing tb t) (well .timing-sort t))
       where
-        reached : s .counter t ≡ min (z .counter t) (a-of tb t) → leb (a-of tb t) (s .counter t) ≡ leb (a-of tb t) (z .counter t)
+        reached : s .counter t ≡ min (z .counter t) (a-of tb t)
+            → leb (a-of tb t) (s .counter t) ≡ leb (a-of tb t) (z .counter t)
         reached lesser =
             ⊎-elim
             (λ (l : leb (a-of tb t) (z .counter t) ≡ true).
@@ -94,7 +97,8 @@ module _ (tb : Table) (well : Well tb) where
         }
 
   -- A state that is written to an image and read back is followed by it.
-  back-follows : (z s : State) → Follows tb z s → ((p : ℕ) → p < 128 → s .tokens p ≤ 65535) → ((t : ℕ) → t < 64 → s .counter t ≤ 65535)
+  back-follows : (z s : State) → Follows tb z s → ((p : ℕ) → p < 128 → s .tokens p ≤ 65535)
+      → ((t : ℕ) → t < 64 → s .counter t ≤ 65535)
       → Follows tb z (state (image (image-bytes s)))
   back-follows z s follows small low =
       record {
@@ -104,7 +108,8 @@ module _ (tb : Table) (well : Well tb) where
       }
 
   -- One cycle of the page follows one cycle of the source.
-  cycle-follows : (z : State) (img : List ℕ) (word : ℕ) → Fits tb (image img) → Stays tb img word → Follows tb z (state (image img))
+  cycle-follows : (z : State) (img : List ℕ) (word : ℕ) → Fits tb (image img) → Stays tb img word
+      → Follows tb z (state (image img))
       → Follows tb (source-cycle tb z word) (state (image (image-bytes (cycle tb img word .after))))
   unfolding cycle source-cycle ceiling
   cycle-follows z img word fits stays follows =
@@ -115,8 +120,10 @@ module _ (tb : Table) (well : Well tb) where
       stays
       (λ t h. counter-low tb well img word fits t h)
 
-  -- Over any run: after n finished cycles the image follows the source's state, so the same are firable at the next cycle, whatever its word.
-  pub run-follows : {ws img left img′ bytes : List ℕ} {n : ℕ} (z : State) → Fits tb (image img) → Follows tb z (state (image img))
+  -- Over any run: after n finished cycles the image follows the source's state, so the same are firable at the next
+  -- cycle, whatever its word.
+  pub run-follows : {ws img left img′ bytes : List ℕ} {n : ℕ} (z : State) → Fits tb (image img)
+      → Follows tb z (state (image img))
       → Steps tb ws img n left img′ bytes → Follows tb (source-run tb n ws z) (state (image img′))
   unfolding source-run ceiling
   run-follows z fits follows Steps.none = follows
@@ -142,9 +149,11 @@ module _ (tb : Table) (well : Well tb) where
         order = λ t h. refl;
       }
 
-  pub stopping-changes-nothing : {ws img left img′ bytes : List ℕ} {n : ℕ} → Fits tb (image img) → Steps tb ws img n left img′ bytes
+  pub stopping-changes-nothing : {ws img left img′ bytes : List ℕ} {n : ℕ} → Fits tb (image img)
+      → Steps tb ws img n left img′ bytes
       → (word t : ℕ)
-      → firable tb (falling tb (state (image img′))) word t ≡ firable tb (source-falling tb (source-run tb n ws (state (image img)))) word t
+      → firable tb (falling tb (state (image img′))) word t ≡ firable tb
+      (source-falling tb (source-run tb n ws (state (image img)))) word t
   stopping-changes-nothing {ws} {img} {img′ = img′} {n = n} fits steps word t =
       let source = source-run tb n ws (state (image img)) in
       let down = falling-follows source (state (image img′)) (run-follows (state (image img)) fits (fits-follows img fits) steps) in

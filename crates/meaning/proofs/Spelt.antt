@@ -1,5 +1,6 @@
--- What bytes spell: the columns of a table, the state of an image and each condition word stand where the page puts them, and a fresh net is as the
--- page says. Every column is a byte or two of its record, and a record is read where it was cut.
+-- What bytes spell: the columns of a table, the state of an image and each condition word stand where the page puts
+-- them, and a fresh net is as the page says. Every column is a byte or two of its record, and a record is read where
+-- it was cut.
 use mathlib.Core.List.{List, [], _∷_}
 use mathlib.Core.Path.{_≡_, refl, ap, ap₂, _∙_}
 use Prim.Native.Nat.{ℕ, zero, suc, _+_, _*_, _/_, _<_}
@@ -18,7 +19,8 @@ use Rattle.meaning.proofs.Sound.{Sound-table, place-column, declared-no
 
 -- Two bytes of a piece, as a number.
 pair-read : (w n k i : ℕ) (bs : List ℕ) → k < n → i + 1 < w
-    → getD (getD (cut w n bs) k []) i 0 + 256 * getD (getD (cut w n bs) k []) (i + 1) 0 ≡ getD bs (w * k + i) 0 + 256 * getD bs (w * k + i + 1) 0
+    → getD (getD (cut w n bs) k []) i 0 + 256 * getD (getD (cut w n bs) k []) (i + 1) 0 ≡ getD bs
+    (w * k + i) 0 + 256 * getD bs (w * k + i + 1) 0
 pair-read w n k i bs l h =
     ap₂ (λ (a b : ℕ). a + 256 * b) (cut-read w n k i bs l (omega arith))
     (cut-read w n k (i + 1) bs l h ∙ ap (λ (j : ℕ). getD bs j 0) (omega arith))
@@ -54,7 +56,8 @@ number-step zero [] = refl
 number-step (suc n) [] = refl
 number-step n (x ∷ xs) = refl
 
-number-from : (n k j : ℕ) (ws : List ℕ) → k + 1 ≡ j → number (take (suc n) (drop k ws)) ≡ getD ws k 0 + 256 * number (take n (drop j ws))
+number-from : (n k j : ℕ) (ws : List ℕ) → k + 1 ≡ j
+    → number (take (suc n) (drop k ws)) ≡ getD ws k 0 + 256 * number (take n (drop j ws))
 number-from n k j ws e =
     let here : k + 0 ≡ k = omega arith in
     number-step n (drop k ws)

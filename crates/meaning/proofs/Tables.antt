@@ -138,7 +138,8 @@ from-6 tb = empties tb ∷ from-7 tb
 abbrev from-5 : Table → List Check
 from-5 tb = unknowns tb ∷ from-6 tb
 
-past-1 : (bs : List ℕ) {n w : ℕ} → 1 < stage n → Caught n w (faults (table bs) ∷ from-5 (table bs)) → Caught n w (table-checks bs)
+past-1 : (bs : List ℕ) {n w : ℕ} → 1 < stage n → Caught n w (faults (table bs) ∷ from-5 (table bs))
+    → Caught n w (table-checks bs)
 unfolding table-checks stage
 past-1 bs l g = skip (lengths bs) _ (λ j e. l) (λ c. g)
 
@@ -181,7 +182,8 @@ arc-transition tb known a =
     (decided (transition-decides tb (tb .two (a .0))))
 
 -- 7 is caught: a sound table's places are below 128, its transitions below 64.
-lone-place-caught : (tb : Table) (p : ℕ) (cs : List Check) → Clean (faults tb) → Place tb p → ((s t w : ℕ) → ¬ Arc tb s p t w)
+lone-place-caught : (tb : Table) (p : ℕ) (cs : List Check) → Clean (faults tb) → Place tb p
+    → ((s t w : ℕ) → ¬ Arc tb s p t w)
     → Caught 7 p (lonely tb ∷ cs)
 lone-place-caught tb p cs clean a h =
     let l : p < 128 = omega (arith, shown-place (of-kind tb (a .0) 1 (all-shown tb clean (a .0) (a .1)) (a .2)) .0, a .3) in
@@ -210,7 +212,8 @@ pair-said bs i clean e =
     Table-says.conflict i j (u .0) l (u .1 .0) (u .1 .1)
 
 -- 9 is caught: the first j with a bad i is no higher than any.
-pair-caught : (tb : Table) (i j : ℕ) → Clean (faults tb) → Clean (unknowns tb) → i < j → j < 64 → Conflict tb i j → ¬ Settled tb i j
+pair-caught : (tb : Table) (i j : ℕ) → Clean (faults tb) → Clean (unknowns tb) → i < j → j < 64 → Conflict tb i j
+    → ¬ Settled tb i j
     → Caught 9 (64 * i + j) (pairs tb ∷ [])
 unfolding clashes
 pair-caught tb i j clean known l m h k =

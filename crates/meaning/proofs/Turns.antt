@@ -1,5 +1,6 @@
--- One cycle, whole: what `cycle` comes to is a turn by the rules and the only one, place 13 is the rules' own, and the 24 bytes of a cycle's record are
--- read back to its three sets. Each part is its rule's law; definition 6 has one set, so nothing else is a turn.
+-- One cycle, whole: what `cycle` comes to is a turn by the rules and the only one, place 13 is the rules' own, and
+-- the 24 bytes of a cycle's record are read back to its three sets. Each part is its rule's law; definition 6 has one
+-- set, so nothing else is a turn.
 use mathlib.Core.Bool.{Bool, true}
 use mathlib.Core.List.{List, _++_, append-assoc}
 use mathlib.Core.Logic.{_↔_}
@@ -58,7 +59,8 @@ module _ (bs : List ℕ) (ok : check bs ≡ accepted 0) where
         rw (fired-meets (table bs) (accepted-well bs ok) s word t) (rule-is (table bs) sound s word F t)
 
     pub fired-alone : (F : ℕ → Bool)
-        → ((t : ℕ) → (F t ≡ true) ↔ Fires (table bs) (start-of img .tokens) (cycle (table bs) img word .after .counter) word F t)
+        → ((t : ℕ)
+        → (F t ≡ true) ↔ Fires (table bs) (start-of img .tokens) (cycle (table bs) img word .after .counter) word F t)
         → (t : ℕ) → F t ≡ fires (table bs) img word t
     unfolding cycle falling rising
     fired-alone F meets =
@@ -67,7 +69,8 @@ module _ (bs : List ℕ) (ok : check bs ≡ accepted 0) where
 
     -- RULE 7, of the cycle: M pays for what is withdrawn, and each place ends with M less it and plus what is put.
     pub marking-is : (p x : ℕ)
-        → (cycle (table bs) img word .after .tokens p ≡ x) ↔ Marked (table bs) (start-of img .tokens) (fires (table bs) img word) p x
+        → (cycle (table bs) img word .after .tokens p ≡ x) ↔ Marked (table bs) (start-of img .tokens)
+        (fires (table bs) img word) p x
     unfolding cycle falling rising
     marking-is p =
         let s = falling (table bs) (start-of img) in
@@ -75,7 +78,8 @@ module _ (bs : List ℕ) (ok : check bs ≡ accepted 0) where
         marked-is (table bs) sound (s .tokens) F p (start-pays (table bs) (accepted-well bs ok) s word p)
 
     -- ALL OF IT: the cycle is a turn,
-    pub cycle-turns : Turn (table bs) (start-of img) word (fires (table bs) img word) (active (table bs) (start-of img .tokens))
+    pub cycle-turns : Turn (table bs) (start-of img) word (fires (table bs) img word)
+        (active (table bs) (start-of img .tokens))
         (executed (table bs) (fires (table bs) img word)) (cycle (table bs) img word .after)
     unfolding cycle falling rising
     cycle-turns =
@@ -115,12 +119,15 @@ module _ (bs : List ℕ) (ok : check bs ≡ accepted 0) where
         same-fired : (t : ℕ) → F t ≡ within (fired (table bs) s word) t
         same-fired = fired-alone F (λ t. rw (fun-ext same-counter) at (turn .fired t))
 
-        same-set : (test : (ℕ → Bool) → Bool) {A : Type 0} → (test F ≡ true) ↔ A → (test (within (fired (table bs) s word)) ≡ true) ↔ A
+        same-set : (test : (ℕ → Bool) → Bool) {A : Type 0} → (test F ≡ true) ↔ A
+            → (test (within (fired (table bs) s word)) ≡ true) ↔ A
         same-set test d = rw (sym (ap test (fun-ext same-fired))) d
 
-    -- 13: the cycle is refused at p exactly if p is the lowest place that would end it above 65,535, and done exactly if no place would.
+    -- 13: the cycle is refused at p exactly if p is the lowest place that would end it above 65,535, and done exactly
+    -- if no place would.
     over-is : (p : ℕ)
-        → (65535 < cycle (table bs) img word .after .tokens p) ↔ Overfull (table bs) (start-of img .tokens) (fires (table bs) img word) p
+        → (65535 < cycle (table bs) img word .after .tokens p) ↔ Overfull (table bs) (start-of img .tokens)
+        (fires (table bs) img word) p
     over-is p = (
       λ l. (cycle (table bs) img word .after .tokens p, marking-is p _ .0 refl, l),
       λ (x, h, l). omega (arith, marking-is p x .1 h),
@@ -134,7 +141,8 @@ module _ (bs : List ℕ) (ok : check bs ≡ accepted 0) where
       λ (l, o, low). (l, over-is p .1 o, λ q h. below q (λ over. low q h (over-is q .0 over))),
     )
       where
-        below : (q : ℕ) → ¬ (65535 < cycle (table bs) img word .after .tokens q) → cycle (table bs) img word .after .tokens q ≤ 65535
+        below : (q : ℕ) → ¬ (65535 < cycle (table bs) img word .after .tokens q)
+            → cycle (table bs) img word .after .tokens q ≤ 65535
         below q n = omega arith
 
     pub stays-is : Stays (table bs) img word
@@ -145,7 +153,8 @@ module _ (bs : List ℕ) (ok : check bs ≡ accepted 0) where
       λ none p l. below p (λ over. none p l (over-is p .0 over)),
     )
       where
-        below : (q : ℕ) → ¬ (65535 < cycle (table bs) img word .after .tokens q) → cycle (table bs) img word .after .tokens q ≤ 65535
+        below : (q : ℕ) → ¬ (65535 < cycle (table bs) img word .after .tokens q)
+            → cycle (table bs) img word .after .tokens q ≤ 65535
         below q n = omega arith
 
 -- Three numbers, spelt in eight bytes each, are found again one behind the other.
@@ -174,8 +183,8 @@ shown-action (Shown.action a b) = b
 shown-function : {o t s f x : ℕ} → Shown 7 o t s f x → t ≤ 63
 shown-function (Shown.function a b) = b
 
--- THE RECORD READ BACK: bit k of its first eight bytes is set exactly if transition k fired, of the next eight if action k is active, of the last
--- eight if function k is executed.
+-- THE RECORD READ BACK: bit k of its first eight bytes is set exactly if transition k fired, of the next eight if
+-- action k is active, of the last eight if function k is executed.
 module _ (bs : List ℕ) (ok : check bs ≡ accepted 0) (img : List ℕ) (word : ℕ) where
   pub fired-read : (k : ℕ) → bit (fired-in (cycle (table bs) img word .written)) k ≡ fires (table bs) img word k
   unfolding cycle record-of fired
@@ -183,7 +192,8 @@ module _ (bs : List ℕ) (ok : check bs ≡ accepted 0) (img : List ℕ) (word :
       ap (λ (l : List ℕ). bit (number l) k) (first-set _ _ _)
       ∙ set-back (fires (table bs) img word) (rounds-out (table bs) _ _ 64) k
 
-  pub actions-read : (k : ℕ) → bit (actions-in (cycle (table bs) img word .written)) k ≡ active (table bs) (start-of img .tokens) k
+  pub actions-read : (k : ℕ)
+      → bit (actions-in (cycle (table bs) img word .written)) k ≡ active (table bs) (start-of img .tokens) k
   unfolding cycle record-of falling
   actions-read k =
       ap (λ (l : List ℕ). bit (number l) k) (second-set _ _ _)

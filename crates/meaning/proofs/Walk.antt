@@ -1,4 +1,5 @@
--- Checks that find exactly what is said give the first that is said: the walk stops at a check of which all that is earlier is clean.
+-- Checks that find exactly what is said give the first that is said: the walk stops at a check of which all that is
+-- earlier is clean.
 use mathlib.Core.Bool.{Bool, true, false}
 use mathlib.Core.List.{List, [], _∷_, _++_}
 use mathlib.Core.Path.{_≡_, sym, ap, refl, _∙_, subst₂}
@@ -46,7 +47,8 @@ pub first-unique : (Says : ℕ → ℕ → Type 0) (n w n′ w′ : ℕ) → Fir
 first-unique Says n w n′ w′ f g =
     elim (ordered n w n′ w′) [ inl l ↦ absurd (g .1 n w l (f .0)) | inr (inl e) ↦ e | inr (inr l) ↦ absurd (f .1 n′ w′ l (g .0)) ]
 
--- Nothing of a later stage is earlier; nothing of the same stage and a higher where; nothing of the same where and no lower number.
+-- Nothing of a later stage is earlier; nothing of the same stage and a higher where; nothing of the same where and no
+-- lower number.
 pub later-stage : {n w n′ w′ : ℕ} → stage n′ < stage n → ¬ Earlier n w n′ w′
 later-stage l (inl k) = omega arith
 later-stage l (inr k) = omega arith
@@ -72,11 +74,13 @@ Speaks Says (c ∷ cs) = ((k : ℕ) → Found c k → Says (c .answer k .number)
 abbrev pub Not-before : ℕ → ℕ → Check → ℕ → Type 0
 Not-before n w c j = ¬ Earlier n w (c .answer j .number) (c .answer j .at)
 
--- A list catches answer n at w: some check finds it or something before it, and what is found up to there is not behind it.
+-- A list catches answer n at w: some check finds it or something before it, and what is found up to there is not
+-- behind it.
 pub data Caught (n w : ℕ) : List Check → Type 0 where
   here : {c : Check} {cs : List Check} (k : ℕ) → k < c .below → c .bad k ≡ true
       → ((j : ℕ) → j ≤ k → c .bad j ≡ true → Not-before n w c j) → Caught n w (c ∷ cs)
-  there : {c : Check} {cs : List Check} → ((j : ℕ) → j < c .below → c .bad j ≡ true → Not-before n w c j) → (Clean c → Caught n w cs)
+  there : {c : Check} {cs : List Check} → ((j : ℕ) → j < c .below → c .bad j ≡ true → Not-before n w c j)
+      → (Clean c → Caught n w cs)
       → Caught n w (c ∷ cs)
 
 -- Clean checks catch nothing.
@@ -85,10 +89,12 @@ clean-catch-none h (here k l e f) = not-both e (h .0 k l)
 clean-catch-none h (there f g) = clean-catch-none (h .1) (g (h .0))
 
 -- A bad candidate whose answer names it is caught; and so is the one candidate of a check that asks once.
-pub caught-here : (m : ℕ) (p : ℕ → Bool) (n k : ℕ) (cs : List Check) → k < m → p k ≡ true → Caught n k (check-of m p (λ j. refused n j) ∷ cs)
+pub caught-here : (m : ℕ) (p : ℕ → Bool) (n k : ℕ) (cs : List Check) → k < m → p k ≡ true
+    → Caught n k (check-of m p (λ j. refused n j) ∷ cs)
 caught-here m p n k cs l e = Caught.here k l e (λ j h b. not-lower refl h (le-refl n))
 
-pub caught-once : (b : Bool) (n w : ℕ) (cs : List Check) → b ≡ true → Caught n w (check-of 1 (λ k. b) (λ k. refused n w) ∷ cs)
+pub caught-once : (b : Bool) (n w : ℕ) (cs : List Check) → b ≡ true
+    → Caught n w (check-of 1 (λ k. b) (λ k. refused n w) ∷ cs)
 caught-once b n w cs e = Caught.here 0 one e (λ j h b. not-lower refl (le-refl w) (le-refl n))
   where
     one : 0 < 1
@@ -205,7 +211,8 @@ all-refuse s [] a = tt
 all-refuse s (c ∷ cs) a = (λ k l e. (a .0 k l e .0, a .0 k l e .1), all-refuse s cs (a .1))
 
 -- What the second list catches, at a stage that the first does not reach, both catch.
-pub caught-behind : {n w : ℕ} (s : ℕ) (xs ys : List Check) → All (Refuses-below s) xs → s ≤ stage n → (AllClean xs → Caught n w ys)
+pub caught-behind : {n w : ℕ} (s : ℕ) (xs ys : List Check) → All (Refuses-below s) xs → s ≤ stage n
+    → (AllClean xs → Caught n w ys)
     → Caught n w (xs ++ ys)
 caught-behind s [] ys a l g = g tt
 caught-behind {n} s (c ∷ cs) ys a l g = there (λ j h e. later-stage (under j h e)) (λ h. caught-behind s cs ys (a .1) l (λ r. g (h, r)))

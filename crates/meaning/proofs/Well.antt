@@ -1,6 +1,6 @@
--- What the laws of a cycle use of an accepted table, as facts about its records. `accepted-well` (Accepted.antt) shows that every accepted
--- table has them.
--- The rules said twice are checked first: every law of a cycle stands on definitions that agree with them.
+-- What the laws of a cycle use of an accepted table, as facts about its records. `accepted-well` (Accepted.antt)
+-- shows that every accepted table has them. The rules said twice are checked first: every law of a cycle stands on
+-- definitions that agree with them.
 use Rattle.meaning.proofs.Rising
 use mathlib.Core.Bool.{true, false}
 use mathlib.Core.Logic.{_≢_}
@@ -23,7 +23,8 @@ pub record Well (tb : Table) : Type 0 where
   pub place-known : (p : ℕ) → place tb p ≡ true → p < 128
   pub transition-known : (t : ℕ) → transition tb t ≡ true → t < 64
   -- no two basic arcs join one place and one transition
-  pub single : (r s : ℕ) → r < tb .records → s < tb .records → basic tb r ≡ true → basic tb s ≡ true → tb .one r ≡ tb .one s
+  pub single : (r s : ℕ) → r < tb .records → s < tb .records → basic tb r ≡ true → basic tb s ≡ true
+      → tb .one r ≡ tb .one s
       → tb .two r ≡ tb .two s → r ≡ s
   -- no transition stands above itself, and each pair in conflict is settled
   pub no-circle : (t : ℕ) → t < 64 → above tb t t ≡ false

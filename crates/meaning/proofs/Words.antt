@@ -1,4 +1,5 @@
--- Bits that no condition record names change nothing: of a word, a cycle reads only the bits that `as-wanted` tests, each named by such a record.
+-- Bits that no condition record names change nothing: of a word, a cycle reads only the bits that `as-wanted` tests,
+-- each named by such a record.
 use mathlib.Core.Bool.{Bool, true, false, not, _&&_, _||_, Bool·beq}
 use mathlib.Core.List.{List, [], _∷_}
 use mathlib.Core.Path.{_≡_, refl, ap}
@@ -50,19 +51,22 @@ pub data AllAgree (tb : Table) : List ℕ → List ℕ → Type 0 where
   more : {v w : ℕ} {vs ws : List ℕ} → Agree tb v w → AllAgree tb vs ws → AllAgree tb (v ∷ vs) (w ∷ ws)
 
 -- Such lists have the same trace.
-pub unnamed-bits-trace : (tb : Table) {vs ws : List ℕ} (img : List ℕ) → AllAgree tb vs ws → trace tb vs img ≡ trace tb ws img
+pub unnamed-bits-trace : (tb : Table) {vs ws : List ℕ} (img : List ℕ) → AllAgree tb vs ws
+    → trace tb vs img ≡ trace tb ws img
 unfolding trace
 unnamed-bits-trace tb img AllAgree.none = refl
 unnamed-bits-trace tb img (AllAgree.more {v} {w} {vs} {ws} a r) =
     rw (unnamed-bits tb img v w a, unnamed-bits-trace tb (image-bytes (cycle tb img w .after)) r)
 
 -- The run's checks see only how long the words are.
-checks-same : (bs img ws vs report : List ℕ) → length ws ≡ length vs → run-checks bs img ws report ≡ run-checks bs img vs report
+checks-same : (bs img ws vs report : List ℕ) → length ws ≡ length vs
+    → run-checks bs img ws report ≡ run-checks bs img vs report
 unfolding run-checks word-checks
 checks-same bs img ws vs report l = simp l
 
 -- So runs over words that agree one by one leave the same answer, image and report.
-pub unnamed-bits-run : (bs img ws vs report : List ℕ) → length ws ≡ length vs → AllAgree (table bs) (words ws) (words vs)
+pub unnamed-bits-run : (bs img ws vs report : List ℕ) → length ws ≡ length vs
+    → AllAgree (table bs) (words ws) (words vs)
     → run bs img ws report ≡ run bs img vs report
 unfolding run
 unnamed-bits-run bs img ws vs report l a = rw (checks-same bs img ws vs report l, unnamed-bits-trace (table bs) img a)

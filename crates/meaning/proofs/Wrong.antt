@@ -1,4 +1,5 @@
--- Answer 10: the tests of an image's records decide whether they fit, since a sound table has one record of each transition to read a and b from.
+-- Answer 10: the tests of an image's records decide whether they fit, since a sound table has one record of each
+-- transition to read a and b from.
 use mathlib.Core.Bool.{Bool, false, not, _&&_, _||_}
 use mathlib.Core.Path.{_≡_, ap}
 use mathlib.Core.Logic.{_↔_, ⊎-elim}

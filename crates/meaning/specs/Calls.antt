@@ -66,7 +66,13 @@ stopped p img = record { number = 13; at = p; cycles = 0; image = img; written =
 -- A finished cycle, and what comes after it.
 abbrev pub and-then : List ℕ → Trace → Trace
 and-then bs rest =
-    record { number = rest .number; at = rest .at; cycles = suc (rest .cycles); image = rest .image; written = bs ++ rest .written }
+    record {
+      number = rest .number;
+      at = rest .at;
+      cycles = suc (rest .cycles);
+      image = rest .image;
+      written = bs ++ rest .written;
+    }
 
 -- One cycle a word, until one is refused.
 unfoldable pub trace : Table → List ℕ → List ℕ → Trace

@@ -51,7 +51,8 @@ falling tb s = record { tokens = s .tokens; counter = counted tb s; order = s .o
 -- Every condition of t is in the word as wanted: sort 0 true, sort 1 false.
 unfoldable pub as-wanted : Table → ℕ → ℕ → Bool
 as-wanted tb word t =
-    every (tb .records) (λ r. not (is tb 4 r && eqb (tb .one r) t) || Bool·beq (bit word (tb .two r)) (eqb (tb .sort r) 0))
+    every (tb .records)
+    (λ r. not (is tb 4 r && eqb (tb .one r) t) || Bool·beq (bit word (tb .two r)) (eqb (tb .sort r) 0))
 
 -- If timed, the counter is at least a and, for sort 1, at most b.
 unfoldable pub in-time : Table → ℕ → ℕ → Bool

@@ -32,7 +32,11 @@ pub record State : Type 0 where
 -- The state that an image holds: records 0 to 127 are the places, 128 to 191 the transitions.
 unfoldable pub state : Image → State
 state img =
-    record { tokens = λ p. img .number p; counter = λ t. img .number (128 + t); order = λ t. eqb (img .third (128 + t)) 1 }
+    record {
+      tokens = λ p. img .number p;
+      counter = λ t. img .number (128 + t);
+      order = λ t. eqb (img .third (128 + t)) 1;
+    }
 
 -- f 0, f 1 and so on up to f (n - 1), one behind the other.
 unfoldable pub join : ℕ → (ℕ → List ℕ) → List ℕ
@@ -74,7 +78,8 @@ most-order tb t = cond (eqb (timing tb t) 0) 0 1
 -- A transition's record is wrong: counter or reset order too high, or the byte shown 0 is not 0.
 unfoldable pub wrong-transition : Table → Image → ℕ → Bool
 wrong-transition tb img t =
-    ltb (most tb t) (img .number (128 + t)) || ltb (most-order tb t) (img .third (128 + t)) || not (eqb (img .fourth (128 + t)) 0)
+    ltb (most tb t) (img .number (128 + t)) || ltb (most-order tb t) (img .third (128 + t))
+    || not (eqb (img .fourth (128 + t)) 0)
 
 -- Record k of an image does not fit the table.
 unfoldable pub wrong : Table → Image → ℕ → Bool

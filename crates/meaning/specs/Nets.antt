@@ -76,7 +76,8 @@ net7 = place 0 1 ++ untimed 0 ++ untimed 1 ++ basic 0 0 ++ test 0 1
 -- Net 8: so many tokens, t0, t1, t2 basic, pairs 0 over 1 and 1 over 2, t1 wants condition 0.
 unfoldable pub net8 : ℕ → List ℕ
 net8 n =
-    place 0 n ++ untimed 0 ++ untimed 1 ++ untimed 2 ++ basic 0 0 ++ basic 0 1 ++ basic 0 2 ++ over 0 1 ++ over 1 2 ++ wants 1 0
+    place 0 n ++ untimed 0 ++ untimed 1 ++ untimed 2 ++ basic 0 0 ++ basic 0 1 ++ basic 0 2 ++ over 0 1 ++ over 1 2
+    ++ wants 1 0
 
 -- Net 9: place 0 with 65,535, t0 without input posts to it; then t1 basic from it too.
 unfoldable pub net9 : List ℕ
@@ -172,11 +173,13 @@ nets = nets-1-to-5 ++ nets-6-to-10
 -- Net 11: t0 and t1 take from place 0, t1 and t2 from place 1; t0 and t2 stand above t1.
 unfoldable pub net11 : List ℕ
 net11 =
-    place 0 1 ++ place 1 1 ++ untimed 0 ++ untimed 1 ++ untimed 2 ++ basic 0 0 ++ basic 0 1 ++ basic 1 1 ++ basic 1 2 ++ over 0 1 ++ over 2 1
+    place 0 1 ++ place 1 1 ++ untimed 0 ++ untimed 1 ++ untimed 2 ++ basic 0 0 ++ basic 0 1 ++ basic 1 1 ++ basic 1 2
+    ++ over 0 1 ++ over 2 1
 
 -- Net 12: t0 and t1 take from place 0; t0 takes 2 from place 1, which has an inhibitor arc of weight w to t1.
 unfoldable pub net12 : ℕ → List ℕ
-net12 w = place 0 1 ++ place 1 2 ++ untimed 0 ++ untimed 1 ++ basic 0 0 ++ basic 0 1 ++ rec 3 1 0 0 2 0 ++ rec 3 1 1 2 w 0
+net12 w = place 0 1 ++ place 1 2 ++ untimed 0 ++ untimed 1 ++ basic 0 0 ++ basic 0 1 ++ rec 3 1 0 0 2 0
+    ++ rec 3 1 1 2 w 0
 
 -- One token, which t0 takes and puts back; t1, below it, takes too.
 unfoldable pub put-back : List ℕ
@@ -236,7 +239,8 @@ passes c =
     && alike (sets-at 0 (answer .cycles) (ended .report)) (c .fired)
     && alike (sets-at 8 (length (c .actions)) (ended .report)) (c .actions)
     && alike (sets-at 16 (length (c .functions)) (ended .report)) (c .functions)
-    && alike (counts-of (table (c .table)) (c .counter) (take (length (c .counts)) (c .words)) (begun .image)) (c .counts)
+    && alike (counts-of (table (c .table)) (c .counter) (take (length (c .counts)) (c .words)) (begun .image))
+    (c .counts)
 
 -- Every case of a list passes.
 unfoldable pub all-pass : List Case → Bool

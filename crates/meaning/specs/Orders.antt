@@ -44,5 +44,6 @@ pub record Safe (tb : Table) (img : List ℕ) (word : ℕ) : Type 0 where
   pub finds : (order : List ℕ) → Order order (cycle tb img word .fired)
       → (m′ : ℕ → ℕ) × One-by-one tb (state (image img) .tokens) order m′
   -- However they are fired, they end in one marking.
-  pub ends : (order : List ℕ) (m′ : ℕ → ℕ) → Order order (cycle tb img word .fired) → One-by-one tb (state (image img) .tokens) order m′
+  pub ends : (order : List ℕ) (m′ : ℕ → ℕ) → Order order (cycle tb img word .fired)
+      → One-by-one tb (state (image img) .tokens) order m′
       → (p : ℕ) → m′ p ≡ marked tb (state (image img) .tokens) (within (cycle tb img word .fired)) p

@@ -49,7 +49,8 @@ Transition tb t = (r : ℕ) × (r < tb .records) × (tb .kind r ≡ 2) × (tb .o
 -- An arc of sort s and weight w between place p and transition t; a condition c of transition t with its sort.
 abbrev pub Arc : Table → ℕ → ℕ → ℕ → ℕ → Type 0
 Arc tb s p t w =
-    (r : ℕ) × (r < tb .records) × (tb .kind r ≡ 3) × (tb .sort r ≡ s) × (tb .one r ≡ p) × (tb .two r ≡ t) × (tb .four r ≡ w)
+    (r : ℕ) × (r < tb .records) × (tb .kind r ≡ 3) × (tb .sort r ≡ s) × (tb .one r ≡ p) × (tb .two r ≡ t)
+    × (tb .four r ≡ w)
 
 abbrev pub Wanted : Table → ℕ → ℕ → ℕ → Type 0
 Wanted tb t c s = (r : ℕ) × (r < tb .records) × (tb .kind r ≡ 4) × (tb .one r ≡ t) × (tb .two r ≡ c) × (tb .sort r ≡ s)
@@ -58,9 +59,11 @@ Wanted tb t c s = (r : ℕ) × (r < tb .records) × (tb .kind r ≡ 4) × (tb .o
 pub data Same (tb : Table) (s r : ℕ) : Type 0 where
   place : tb .kind s ≡ 1 → tb .kind r ≡ 1 → tb .one s ≡ tb .one r → Same tb s r
   transition : tb .kind s ≡ 2 → tb .kind r ≡ 2 → tb .one s ≡ tb .one r → Same tb s r
-  input-arc : tb .kind s ≡ 3 → tb .kind r ≡ 3 → tb .sort s ≤ 2 → tb .sort r ≤ 2 → tb .one s ≡ tb .one r → tb .two s ≡ tb .two r
+  input-arc : tb .kind s ≡ 3 → tb .kind r ≡ 3 → tb .sort s ≤ 2 → tb .sort r ≤ 2 → tb .one s ≡ tb .one r
+      → tb .two s ≡ tb .two r
       → Same tb s r
-  post-arc : tb .kind s ≡ 3 → tb .kind r ≡ 3 → tb .sort s ≡ 3 → tb .sort r ≡ 3 → tb .one s ≡ tb .one r → tb .two s ≡ tb .two r
+  post-arc : tb .kind s ≡ 3 → tb .kind r ≡ 3 → tb .sort s ≡ 3 → tb .sort r ≡ 3 → tb .one s ≡ tb .one r
+      → tb .two s ≡ tb .two r
       → Same tb s r
   condition : tb .kind s ≡ 4 → tb .kind r ≡ 4 → tb .one s ≡ tb .one r → tb .two s ≡ tb .two r → Same tb s r
   priority : tb .kind s ≡ 5 → tb .kind r ≡ 5 → tb .one s ≡ tb .one r → tb .two s ≡ tb .two r → Same tb s r
@@ -101,16 +104,19 @@ pub data Table-says (bs : List ℕ) : ℕ → ℕ → Type 0 where
   length-long : 8192 < length bs → Table-says bs 1 0
   kind : {r : ℕ} → r < table bs .records → ¬ Sort (table bs .kind r) (table bs .sort r) → Table-says bs 2 r
   field : {r : ℕ} → r < table bs .records
-      → ¬ Shown (table bs .kind r) (table bs .one r) (table bs .two r) (table bs .sort r) (table bs .four r) (table bs .six r)
+      → ¬ Shown (table bs .kind r) (table bs .one r) (table bs .two r) (table bs .sort r) (table bs .four r)
+      (table bs .six r)
       → Table-says bs 3 r
   twice : {r : ℕ} (s : ℕ) → s < r → r < table bs .records → Same (table bs) s r → Table-says bs 4 r
   unknown : {r : ℕ} → r < table bs .records → Names-unknown (table bs) r → Table-says bs 5 r
   no-place : ((p : ℕ) → ¬ Place (table bs) p) → Table-says bs 6 0
   no-transition : ((t : ℕ) → ¬ Transition (table bs) t) → Table-says bs 6 1
   lone-place : {p : ℕ} → Place (table bs) p → ((s t w : ℕ) → ¬ Arc (table bs) s p t w) → Table-says bs 7 p
-  lone-transition : (t : ℕ) → Transition (table bs) t → ((s p w : ℕ) → ¬ Arc (table bs) s p t w) → Table-says bs 7 (128 + t)
+  lone-transition : (t : ℕ) → Transition (table bs) t → ((s p w : ℕ) → ¬ Arc (table bs) s p t w)
+      → Table-says bs 7 (128 + t)
   circle : {t : ℕ} → Above (table bs) t t → Table-says bs 8 t
-  conflict : (i j : ℕ) → i < j → j < 64 → Conflict (table bs) i j → ¬ Settled (table bs) i j → Table-says bs 9 (64 * i + j)
+  conflict : (i j : ℕ) → i < j → j < 64 → Conflict (table bs) i j → ¬ Settled (table bs) i j
+      → Table-says bs 9 (64 * i + j)
 
 -- A place's record of the image fits.
 pub record Place-fits (tb : Table) (img : Image) (p : ℕ) : Type 0 where
@@ -145,7 +151,8 @@ pub data Start-says (bs img : List ℕ) : ℕ → ℕ → Type 0 where
 pub data Run-says (bs img ws report : List ℕ) : ℕ → ℕ → Type 0 where
   of-table : {n w : ℕ} → Table-says bs n w → Run-says bs img ws report n w
   image-length : length img ≢ 768 → Run-says bs img ws report 10 192
-  image-place : {p : ℕ} → length img ≡ 768 → p < 128 → ¬ Place-fits (table bs) (image img) p → Run-says bs img ws report 10 p
+  image-place : {p : ℕ} → length img ≡ 768 → p < 128 → ¬ Place-fits (table bs) (image img) p
+      → Run-says bs img ws report 10 p
   image-transition : (t : ℕ) → length img ≡ 768 → t < 64 → ¬ Transition-fits (table bs) (image img) t
       → Run-says bs img ws report 10 (128 + t)
   words-odd : length ws % 8 ≢ 0 → Run-says bs img ws report 11 0

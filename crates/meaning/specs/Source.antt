@@ -16,7 +16,8 @@ unfoldable pub source-counted : Table → State → ℕ → ℕ
 source-counted tb z t =
     cond (eqb (timing tb t) 0) (z .counter t)
     (cond (enabled tb (z .tokens) t)
-    (cond (z .order t) 1 (cond (eqb (timing tb t) 2 || leb (z .counter t) (b-of tb t)) (suc (z .counter t)) (z .counter t))) 0)
+    (cond (z .order t) 1
+    (cond (eqb (timing tb t) 2 || leb (z .counter t) (b-of tb t)) (suc (z .counter t)) (z .counter t))) 0)
 
 unfoldable pub source-falling : Table → State → State
 source-falling tb z = record { tokens = z .tokens; counter = source-counted tb z; order = z .order }

@@ -46,7 +46,8 @@ pub extern "C" fn mk_start(table: &[u8], image: &mut [u8]) -> Told
 // One cycle a word; a refusal before any cycle writes nothing, and 13 keeps the finished cycles.
 #[no_mangle]
 pub extern "C" fn mk_run(table: &[u8], image: &mut [u8], words: &[u8], report: &mut [u8]) -> Told
-    ensures { λ a. ⌜ Ran (now (table .entry)) (now (image .entry)) (now (words .entry)) (now (report .entry)) (told a) (now (image .exit)) (now (report .exit)) ⌝ }
+    ensures { λ a. ⌜ Ran (now (table .entry)) (now (image .entry)) (now (words .entry)) (now (report .entry)) (told a)
+        (now (image .exit)) (now (report .exit)) ⌝ }
 {
     let a = engine::run(table, image, words, report);
     Told {

@@ -1,5 +1,5 @@
-// The program: reads net.bin and words.bin in the current directory, starts the net, runs it, and prints a line for each finished cycle and the
-// end line.
+// The program: reads net.bin and words.bin in the current directory, starts the net, runs it, and prints a line for
+// each finished cycle and the end line.
 use engine::Answer;
 use libc::STDOUT_FILENO;
 ghost use Rattle.io.specs.Counts.{Counts};

@@ -13,7 +13,8 @@ use Rattle.meaning.specs.Cycle.{stops, enabled, active, risen, counted, falling
 use Rattle.meaning.specs.Calls.{start-checks, start, words-of, word-checks, run-checks, trace, run}
 use Rattle.meaning.specs.Nets.{N, N-unsettled, net7, net8, net6, alike, word-bytes, sets-at, counts-of, passes, net5, net9, net10, nets-1-to-5, nets-6-to-10, all-pass, net11, net12, put-back, two-full, beside, Case, nets}
 
--- The cases of net N as printed and nets 1 to 5, and of nets 6 to 10. Each is a computation of its own, since one alone has steps enough.
+-- The cases of net N as printed and nets 1 to 5, and of nets 6 to 10. Each is a computation of its own, since one
+-- alone has steps enough.
 first-half : all-pass nets-1-to-5 ≡ true
 unfolding some every sum first members within number bytes bit bits cut kinds place transition total ceiling table decide through above bad-length bad-kind interval bad-field same twice fault faulty names-place names-transition names-second unknown empty arc-at-place arc-at-transition isolated circle some-two conflict complementary inhibited settled unsettled clashes table-checks state join image image-bytes fresh wrong-place most most-order wrong-transition wrong state-checks stops enabled active risen counted falling as-wanted in-time firable withdrawn added residual rule rounds fired marked executed starved reset rising record-of cycle overfull start-checks start words-of word-checks run-checks trace run N N-unsettled net7 net8 net6 alike word-bytes sets-at counts-of passes net5 net9 net10 nets-1-to-5 nets-6-to-10 all-pass net11 net12 put-back two-full beside
 first-half = refl

@@ -1,5 +1,6 @@
--- Wrong engines of check, start and lookup: on a named input the promises refuse what such an engine answers or leaves. Most of them are no edit of the
--- code's own shape; those that are one too (`second-input-arc`, `same-condition`, `post-arc-twice`) show it here without a proof of the code.
+-- Wrong engines of check, start and lookup: on a named input the promises refuse what such an engine answers or
+-- leaves. Most of them are no edit of the code's own shape; those that are one too (`second-input-arc`,
+-- `same-condition`, `post-arc-twice`) show it here without a proof of the code.
 use mathlib.Core.List.{List, [], _∷_, _++_}
 use mathlib.Core.Path.{_≡_, refl, ap, _∙_}
 use Prim.Native.Nat.{ℕ}
@@ -192,5 +193,6 @@ unfolding lookup-from
 second-at-24 = refl
 
 -- Hands back the part of cycle 1 for cycle 2, where the bytes of the two are equal.
-pub first-of-equal-records : (block byte : ℕ) → ¬ Looked-up (replicate 48 0) (block, byte) 2 (replicate 24 0) (block, byte)
+pub first-of-equal-records : (block byte : ℕ)
+    → ¬ Looked-up (replicate 48 0) (block, byte) 2 (replicate 24 0) (block, byte)
 first-of-equal-records block byte l = omega (arith, l .byte-is, second-at-24)

@@ -1,5 +1,5 @@
--- Wrong engines of run: on a named input run's promise refuses what such an engine answers or leaves. Some are an edit of the code too
--- (`residual-of-basic-arcs`, `reset-by-new-marking`, `fires-nothing`), the others are not.
+-- Wrong engines of run: on a named input run's promise refuses what such an engine answers or leaves. Some are an
+-- edit of the code too (`residual-of-basic-arcs`, `reset-by-new-marking`, `fires-nothing`), the others are not.
 use mathlib.Core.List.{List, _++_}
 use mathlib.Core.Path.{_≡_, refl, ap, _∙_}
 use Prim.Native.Nat.{ℕ, _*_}
@@ -41,7 +41,8 @@ net9-taken = net9 ++ net.untimed 1 ++ net.basic 0 1
 abbrev pub net9-timed : List ℕ
 net9-timed = net9 ++ net.between 1 2 3 ++ net.test 0 1
 
--- What run leaves of each, computed by the definitions themselves: a byte of the report or the image, or a part of the answer.
+-- What run leaves of each, computed by the definitions themselves: a byte of the report or the image, or a part of
+-- the answer.
 leaves : (getD (run net7-ranked (begun net7-ranked) (quiet 1) (sevens 24) .report) 0 0 ≡ 1)
     × (getD (run put-back (begun put-back) (quiet 1) (sevens 24) .report) 0 0 ≡ 1)
     × (getD (run N (begun N) (quiet 2) (sevens 48) .report) 24 0 ≡ 0)
@@ -73,11 +74,13 @@ image-byte i r = ap (λ (l : List ℕ). getD l i 0) (r .image-is)
 
 module _ (a : Answer) (img report : List ℕ) where
   -- Asks the residual of basic arcs only: t1's test arc still finds its token, and both fire (document 01, errors, 3).
-  pub residual-of-basic-arcs : getD report 0 0 ≡ 3 → ¬ Ran net7-ranked (begun net7-ranked) (quiet 1) (sevens 24) a img report
+  pub residual-of-basic-arcs : getD report 0 0 ≡ 3
+      → ¬ Ran net7-ranked (begun net7-ranked) (quiet 1) (sevens 24) a img report
   residual-of-basic-arcs e r = omega (arith, e, report-byte 0 r, leaves .0)
 
-  -- Counts in the residual what is put back: t1 spends the token that t0 puts back (document 01, errors, 6). No edit of the code does that: when
-  -- the set is chosen nothing is put yet, and what will be put is added up only once the set is known.
+  -- Counts in the residual what is put back: t1 spends the token that t0 puts back (document 01, errors, 6). No edit
+  -- of the code does that: when the set is chosen nothing is put yet, and what will be put is added up only once the
+  -- set is known.
   pub residual-with-posts : getD report 0 0 ≡ 3 → ¬ Ran put-back (begun put-back) (quiet 1) (sevens 24) a img report
   residual-with-posts e r = omega (arith, e, report-byte 0 r, leaves .1)
 
@@ -102,7 +105,8 @@ module _ (a : Answer) (img report : List ℕ) where
   keeps-the-refused-tokens e r = omega (arith, e, image-byte 0 r, leaves .6)
 
   -- Leaves the counters of a refused cycle.
-  pub keeps-the-refused-counters : getD img 516 0 ≡ 1 → ¬ Ran net9-timed (begun net9-timed) (quiet 1) (sevens 24) a img report
+  pub keeps-the-refused-counters : getD img 516 0 ≡ 1
+      → ¬ Ran net9-timed (begun net9-timed) (quiet 1) (sevens 24) a img report
   keeps-the-refused-counters e r = omega (arith, e, image-byte 516 r, leaves .7)
 
   -- Answers 13 at the highest such place.
@@ -113,7 +117,8 @@ module _ (a : Answer) (img report : List ℕ) where
   pub full-before-withdrawals : a .number ≡ 13 → ¬ Ran net9-taken (begun net9-taken) (quiet 1) (sevens 24) a img report
   full-before-withdrawals e r = omega (arith, e, ap (λ (b : Answer). b .number) (r .answer-is), leaves .9)
 
-  -- Judges a reset by the new marking: t0 takes the token of net 6 and puts it back, so t1 is never reset, and fires in cycle 2.
+  -- Judges a reset by the new marking: t0 takes the token of net 6 and puts it back, so t1 is never reset, and fires
+  -- in cycle 2.
   pub reset-by-new-marking : getD report 24 0 ≡ 3 → ¬ Ran (net6 1) (begun (net6 1)) (quiet 2) (sevens 48) a img report
   reset-by-new-marking e r = omega (arith, e, report-byte 24 r, leaves .10)
 

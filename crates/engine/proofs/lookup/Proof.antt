@@ -1,4 +1,5 @@
--- `engine::lookup` meets its contract: each return is one of the two cases of the definition, and stands where the code cut it.
+-- `engine::lookup` meets its contract: each return is one of the two cases of the definition, and stands where the
+-- code cut it.
 use mathlib.Core.Logic.{inl, inr}
 use mathlib.Core.Path.{_≡_, refl, sym, ap, _∙_}
 use Prim.Native.Nat.{ℕ, _+_, _-_, _*_, _≤_}
@@ -10,31 +11,10 @@ use borrow.Author.Needs.{needs}
 use Rattle.engine.proofs.lookup.Statement.{statement}
 use Rattle.engine.proofs.lookup.Tie as tie
 
-slice-aggregate-result : tie.Need-slice-aggregate-result
-slice-aggregate-result c = search needs
-
 returns : tie.Need-returns
 returns c =
     let none = lookup-none (c .before .before .args .report .now) (c .before .before .args .cycle) (inl (omega (arith, c .before .if1 .taken))) in
     record { part-is = sym (none .0); block-is = refl; byte-is = omega (arith, none .1) }
-
-sub-from : tie.Need-sub-from
-sub-from c = search needs
-
-mul-from : tie.Need-mul-from
-mul-from c = search needs
-
-add-to : tie.Need-add-to
-add-to c = search needs
-
-sub-result : tie.Need-sub-result
-sub-result c = search needs
-
-part-result-start : tie.Need-part-result-start
-part-result-start c = search needs
-
-part-result-end : tie.Need-part-result-end
-part-result-end c = search needs
 
 returns-2 : tie.Need-returns-2
 returns-2 c =
@@ -44,10 +24,12 @@ returns-2 c =
     let some-cycle : 1 ≤ cycle = nonzero cycle (c .before .before .if1 .left) in
     let room : 24 * cycle ≤ length report = omega (arith, c .before .if2 .taken) in
     let found = lookup-whole report cycle some-cycle room in
-    record { part-is = ap (λ (n : ℕ). take n (drop (24 * (cycle - 1)) report)) width ∙ sym (found .0); block-is = refl; byte-is = omega (arith, found .2) }
-
-slice-aggregate-result-2 : tie.Need-slice-aggregate-result-2
-slice-aggregate-result-2 c = search needs
+    record {
+      part-is = ap (λ (n : ℕ). take n (drop (24 * (cycle - 1)) report)) width
+          ∙ sym (found .0);
+      block-is = refl;
+      byte-is = omega (arith, found .2);
+    }
 
 returns-3 : tie.Need-returns-3
 returns-3 c =
@@ -58,14 +40,14 @@ pub lookup-spec : {M : Type 1} → statement M
 lookup-spec =
     tie.close
     (tie.spec
-    slice-aggregate-result
+    (λ c. search needs)
     returns
-    sub-from
-    mul-from
-    add-to
-    sub-result
-    part-result-start
-    part-result-end
+    (λ c. search needs)
+    (λ c. search needs)
+    (λ c. search needs)
+    (λ c. search needs)
+    (λ c. search needs)
+    (λ c. search needs)
     returns-2
-    slice-aggregate-result-2
+    (λ c. search needs)
     returns-3)

@@ -17,7 +17,8 @@ start c = judged c .before .before .before .before .before .before .before .befo
 
 -- The rows of an accepted table.
 accepted : (c : tie.Else1)
-    → Proceed-of (start c .args .t .now) (start c .args .n) (judged c .judge .result .known) (judged c .judge .last .1 .1 .0)
+    → Proceed-of (start c .args .t .now) (start c .args .n) (judged c .judge .result .known)
+    (judged c .judge .last .1 .1 .0)
     (judged c .judge .last .1 .1 .1 .1 .1 .1 .1 .0) (judged c .judge .last .1 .1 .1 .0) (judged c .judge .last .1 .1 .1 .1 .0)
     (judged c .judge .last .1 .1 .1 .1 .1 .0) (judged c .judge .last .1 .1 .1 .1 .1 .1 .0)
 unfolding table

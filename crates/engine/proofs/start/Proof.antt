@@ -6,9 +6,6 @@ use borrow.Author.Needs.{needs}
 use Rattle.engine.proofs.start.Statement.{statement}
 use Rattle.engine.proofs.start.Tie as tie
 
-check-requires : tie.Need-check-requires
-check-requires c κs = search needs
-
 returns : tie.Need-returns
 returns c =
     let answer = c .before .before .check .ensures .answer-is in
@@ -26,9 +23,6 @@ fresh-requires c κs =
     let answer = c .before .before .before .before .check .ensures .answer-is in
     (c .before .if2 .left, accepted-if _ (ap (λ (a : Answer). a .number) (sym answer) ∙ c .before .before .if1 .left))
 
-same-length : tie.Need-same-length
-same-length c = search needs
-
 returns-3 : tie.Need-returns-3
 returns-3 c =
     let answer = c .before .before .before .before .before .before .before .check .ensures .answer-is in
@@ -42,4 +36,4 @@ returns-3 c =
 pub start-spec : {M : Type 1} → statement M
 start-spec =
     tie.close
-    (tie.spec check-requires returns returns-2 fresh-requires same-length returns-3)
+    (tie.spec (λ c κs. search needs) returns returns-2 fresh-requires (λ c. search needs) returns-3)

@@ -8,14 +8,13 @@ use Rattle.moezelkring.proofs.Parts.{part-none, in-report, part-some}
 use Rattle.moezelkring.proofs.mk_lookup.Statement.{statement}
 use Rattle.moezelkring.proofs.mk_lookup.Tie as tie
 
-lookup-requires : tie.Need-lookup-requires
-lookup-requires c κs = search needs
-
 returns : tie.Need-returns
 returns c = part-none _ _ (ap length (sym (c .before .lookup .ensures .part-is)) ∙ c .if1 .taken)
 
 -- The part has bytes, so the report holds the cycle.
-held : (c : tie.Else1) → (1 ≤ c .before .before .before .args .cycle) × (c .before .before .before .args .cycle ≤ length (c .before .before .before .args .report .now) / 24)
+held : (c : tie.Else1)
+    → (1 ≤ c .before .before .before .args .cycle)
+    × (c .before .before .before .args .cycle ≤ length (c .before .before .before .args .report .now) / 24)
 held c = in-report _ _ (λ z. c .if1 .left (ap length (c .before .lookup .ensures .part-is) ∙ z))
 
 sub-t4 : tie.Need-sub-t4
@@ -30,4 +29,4 @@ returns-2 c =
     rw part (part-some _ _ (λ z. c .if1 .left (ap length part ∙ z)))
 
 pub mk-lookup-spec : {M : Type 1} → statement M
-mk-lookup-spec = tie.close (tie.spec lookup-requires returns sub-t4 mul-t6 returns-2)
+mk-lookup-spec = tie.close (tie.spec (λ c κs. search needs) returns sub-t4 mul-t6 returns-2)

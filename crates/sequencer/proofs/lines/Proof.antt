@@ -17,9 +17,6 @@ loop-holds c = omega arith
 add-k : tie.Need-add-k Inv-loop μ-loop
 add-k c = omega arith
 
-line-requires : tie.Need-line-requires Inv-loop μ-loop
-line-requires c κs = search needs
-
 loop-less : tie.Need-loop-less Inv-loop μ-loop
 loop-less c = omega arith
 
@@ -32,4 +29,4 @@ returns c = omega arith
 pub lines-spec : {M : Type 1} → statement M
 lines-spec =
     tie.close
-    (tie.spec Inv-loop μ-loop loop-holds add-k line-requires loop-less loop-again returns)
+    (tie.spec Inv-loop μ-loop loop-holds add-k (λ c κs. search needs) loop-less loop-again returns)

@@ -42,7 +42,8 @@ module _ (img ws report : List ℕ) (known : Declared) (times : List ℕ) where
     unfolding lent-checks first
     past-long = hands-on long-check _ (accepted 0) (rw (eq-eqb (length img) 768 long))
 
-    pub lent-wrong : first 192 (wrong-by img known times) < 192 → lent ≡ refused 10 (first 192 (wrong-by img known times))
+    pub lent-wrong : first 192 (wrong-by img known times) < 192
+        → lent ≡ refused 10 (first 192 (wrong-by img known times))
     lent-wrong l = past-long ∙ answers fit-check (word-checks ws report) (accepted 0) l
 
     module _ (fits : first 192 (wrong-by img known times) ≡ 192) where

@@ -3,9 +3,9 @@ use mathlib.Core.Path.{sym, ap, _∙_}
 use borrow.Author.Needs.{needs}
 use Rattle.meaning.specs.Answer.{refused}
 use Rattle.judge.proofs.Answers.{reached}
-use Rattle.engine.proofs.Lent.{lent-long, lent-wrong, lent-odd, lent-many, lent-short, lent-fine}
-use Rattle.engine.proofs.judge_lent.Statement.{statement}
-use Rattle.engine.proofs.judge_lent.Tie as tie
+use Rattle.engine.proofs.Beside.{lent-long, lent-wrong, lent-odd, lent-many, lent-short, lent-fine}
+use Rattle.engine.proofs.lent.judge_lent.Statement.{statement}
+use Rattle.engine.proofs.lent.judge_lent.Tie as tie
 
 long : tie.Need-returns
 long c = sym (lent-long _ _ _ _ _ (c .if1 .taken))

@@ -3,8 +3,8 @@ use mathlib.Core.Path.{sym, ap, _∙_}
 use borrow.Author.Needs.{needs}
 use Rattle.meaning.specs.Answer.{Answer}
 use Rattle.engine.proofs.Runs.{plays, ready, refused-by-lent, ran-through}
-use Rattle.engine.proofs.proceed.Statement.{statement}
-use Rattle.engine.proofs.proceed.Tie as tie
+use Rattle.engine.proofs.lent.proceed.Statement.{statement}
+use Rattle.engine.proofs.lent.proceed.Tie as tie
 
 lent-asks : tie.Need-judge-lent-requires
 lent-asks c κs = c .before .before .before .before .before .before .before .pre .of .net-of .few
