@@ -1,4 +1,5 @@
--- Rivals are gained one above the other: the walk over those below u gives u to each that it meets, and the walk over all u gives each its rivals.
+-- Rivals are gained one above the other: the walk over those below u gives u to each that it meets, and the walk over
+-- all u gives each its rivals.
 use mathlib.Core.Bool.{Bool, true, false, not, _&&_, _||_, and-true, and-false, or-false}
 use mathlib.Core.List.{List}
 use mathlib.Core.Path.{_≡_, refl, sym, ap, _∙_}
@@ -8,7 +9,7 @@ use native.Mathlib.Omega.{arith}
 use lib.Dec.{eqb, ltb}
 use lib.ListN.{length, getD, set, length-set}
 use lib.Seq.{getD-set-other}
-use borrow.Author.Tests.{eqb-true, le-ltb, lt-ltb}
+use borrow.Author.Tests.{eqb-true, le-ltb}
 use Rattle.meaning.specs.Below.{some}
 use Rattle.meaning.specs.Bytes.{bit}
 use Rattle.meaning.proofs.Bool.{not-both, same-test}
@@ -16,16 +17,17 @@ use Rattle.meaning.proofs.Below.{some-intro, some-elim}
 use Rattle.rows.specs.Rows.{inputs, takers, below}
 use Rattle.sets.proofs.Bits.{bit-zero}
 use Rattle.sets.proofs.Members.{kept}
+use Rattle.sets.proofs.Walk.{one-more, below-end}
 use Rattle.arcs.specs.Arcs.{rivals-of, Turned, meeting, rival, Low-pairs, Rivals}
 use Rattle.arcs.proofs.Putting.{one-put}
 use Rattle.arcs.proofs.Meeting.{met, meeting-stays}
-use Rattle.arcs.proofs.Turning.{one-more, below-end}
 
 -- The places of each transition have stayed.
 abbrev pub Stayed : List ℕ → List ℕ → Type 0
 Stayed before after = (t c : ℕ) → c < 4 → getD after (5 * t + c) 0 ≡ getD before (5 * t + c) 0
 
--- Where the walk over those below u has come to, by where it began: who has u for a rival, or is left and meets it, has stayed the same.
+-- Where the walk over those below u has come to, by where it began: who has u for a rival, or is left and meets it,
+-- has stayed the same.
 pub record Gains (u left₀ : ℕ) (arcs₀ : List ℕ) (lower₀ left : ℕ) (arcs : List ℕ) (lower : ℕ) : Type 0 where
   pub small : left < 2 ^ 64
   pub size : length arcs ≡ 320
@@ -33,7 +35,8 @@ pub record Gains (u left₀ : ℕ) (arcs₀ : List ℕ) (lower₀ left : ℕ) (a
   pub rivals : (t v : ℕ)
       → (bit (rivals-of arcs t) v || ((bit left t && meeting arcs₀ t u) && eqb u v))
       ≡ (bit (rivals-of arcs₀ t) v || ((bit left₀ t && meeting arcs₀ t u) && eqb u v))
-  pub lowers : (t : ℕ) → (bit lower t || (bit left t && meeting arcs₀ t u)) ≡ (bit lower₀ t || (bit left₀ t && meeting arcs₀ t u))
+  pub lowers : (t : ℕ) → (bit lower t || (bit left t && meeting arcs₀ t u))
+      ≡ (bit lower₀ t || (bit left₀ t && meeting arcs₀ t u))
 
 -- What a turn makes of the sets: k has u for a rival where y says so.
 pub record Gained (u k : ℕ) (y : Bool) (arcs : List ℕ) (lower : ℕ) (after : List ℕ) (more : ℕ) : Type 0 where
@@ -60,8 +63,10 @@ none-put u k arcs lower size =
 
 -- A turn takes member k out of set a and leaves set b.
 pub one-gained : (a k b : ℕ) → ((j : ℕ) → bit b j ≡ (bit a j && not (eqb k j))) → bit a k ≡ true → k < 64 → b < 2 ^ 64
-    → {u left₀ : ℕ} {arcs₀ : List ℕ} {lower₀ : ℕ} {arcs : List ℕ} {lower : ℕ} → Gains u left₀ arcs₀ lower₀ a arcs lower → (y : Bool)
-    → y ≡ meeting arcs k u → (after : List ℕ) (more : ℕ) → Gained u k y arcs lower after more → Gains u left₀ arcs₀ lower₀ b after more
+    → {u left₀ : ℕ} {arcs₀ : List ℕ} {lower₀ : ℕ} {arcs : List ℕ} {lower : ℕ} → Gains u left₀ arcs₀ lower₀ a arcs lower
+    → (y : Bool)
+    → y ≡ meeting arcs k u → (after : List ℕ) (more : ℕ) → Gained u k y arcs lower after more
+    → Gains u left₀ arcs₀ lower₀ b after more
 one-gained a k b rest has low small {u} {left₀} {arcs₀} {lower₀} {arcs} {lower} w y says after more g =
     record {
       small = small;
@@ -69,9 +74,7 @@ one-gained a k b rest has low small {u} {left₀} {arcs₀} {lower₀} {arcs} {l
       places = λ t c h. g .places t c h ∙ w .places t c h;
       rivals = λ t v. rw (g .rivals t v, rest t) (due t v (eqb k t) refl ∙ w .rivals t v);
       lowers = λ t.
-          kept a k b rest (λ t. meeting arcs₀ t u) lower more y low has passes
-          (λ j. g .lowers j ∙ rw (lt-ltb k 64 low, and-true (eqb k j))) t
-          ∙ w .lowers t;
+          kept a k b rest (λ t. meeting arcs₀ t u) lower more y has passes (g .lowers) t ∙ w .lowers t;
     }
   where
     passes : y ≡ meeting arcs₀ k u
@@ -85,10 +88,14 @@ one-gained a k b rest has low small {u} {left₀} {arcs₀} {lower₀} {arcs} {l
     later x y b f e = rw (and-false y, or-false x, and-true b)
 
     due : (t v : ℕ) (z : Bool) → eqb k t ≡ z
-        → ((bit (rivals-of arcs t) v || ((y && z) && eqb u v)) || (((bit a t && not z) && meeting arcs₀ t u) && eqb u v))
+        → ((bit (rivals-of arcs t) v || ((y && z) && eqb u v))
+        || (((bit a t && not z) && meeting arcs₀ t u) && eqb u v))
         ≡ (bit (rivals-of arcs t) v || ((bit a t && meeting arcs₀ t u) && eqb u v))
     due t v true z =
-        rw (sym (ap (bit a) (eqb-true k t z)) ∙ has, sym (ap (λ (t : ℕ). meeting arcs₀ t u) (eqb-true k t z)) ∙ sym passes)
+        rw (
+          sym (ap (bit a) (eqb-true k t z)) ∙ has,
+          sym (ap (λ (t : ℕ). meeting arcs₀ t u) (eqb-true k t z)) ∙ sym passes,
+        )
         (now (bit (rivals-of arcs t) v) y (eqb u v))
     due t v false z = later (bit (rivals-of arcs t) v) y (bit a t) (meeting arcs₀ t u) (eqb u v)
 
@@ -112,7 +119,8 @@ module _ {rows arcs₀ : List ℕ} (turned : Turned rows arcs₀) where
       }
 
   -- The walk over those below u is done: whoever meets u there has it.
-  pub one-given : {u : ℕ} {arcs : List ℕ} {lower left : ℕ} {after : List ℕ} {more : ℕ} → Given-to rows arcs₀ u arcs lower → u < 64
+  pub one-given : {u : ℕ} {arcs : List ℕ} {lower left : ℕ} {after : List ℕ} {more : ℕ}
+      → Given-to rows arcs₀ u arcs lower → u < 64
       → Gains u (below rows u) arcs lower left after more → left ≡ 0 → Given-to rows arcs₀ (u + 1) after more
   unfolding some
   one-given {u} {arcs} {lower} {left} {after} {more} w low g e =
@@ -131,7 +139,8 @@ module _ {rows arcs₀ : List ℕ} (turned : Turned rows arcs₀) where
       meets t h = meeting-stays arcs arcs₀ (w .places) t u ∙ met turned t u h low
 
   -- With the rivals below n given, and nobody above another from n on, all are.
-  pub all-given : {n u : ℕ} {arcs : List ℕ} {lower : ℕ} → Low-pairs n rows → n ≤ u → u ≤ 64 → Given-to rows arcs₀ u arcs lower → Rivals rows arcs lower
+  pub all-given : {n u : ℕ} {arcs : List ℕ} {lower : ℕ} → Low-pairs n rows → n ≤ u → u ≤ 64
+      → Given-to rows arcs₀ u arcs lower → Rivals rows arcs lower
   all-given {n} {u} {arcs} {lower} few past small w =
       record {
         size = w .size;

@@ -14,7 +14,8 @@ use Rattle.meaning.specs.Bytes.{bit}
 module _ (arcs : List ℕ) (m k v : ℕ) (few : k < 5) (there : 5 * m + k < length arcs) (w : ℕ → Bool)
     (gains : (j : ℕ) → bit v j ≡ (bit (getD arcs (5 * m + k) 0) j || w j)) where
   pub one-put : (t c j : ℕ) → c < 5
-      → bit (getD (set arcs (5 * m + k) v) (5 * t + c) 0) j ≡ (bit (getD arcs (5 * t + c) 0) j || ((eqb c k && eqb m t) && w j))
+      → bit (getD (set arcs (5 * m + k) v) (5 * t + c) 0) j
+      ≡ (bit (getD arcs (5 * t + c) 0) j || ((eqb c k && eqb m t) && w j))
   one-put t c j h = go (eqb c k) (eqb m t) refl refl
     where
       other : ¬ (5 * t + c ≡ 5 * m + k)
@@ -32,7 +33,8 @@ module _ (arcs : List ℕ) (m k v : ℕ) (few : k < 5) (there : 5 * m + k < leng
           let apart : ¬ (c ≡ k) = eqb-false c k x in
           other (λ z. omega arith)
 
-  -- A turn of a walk takes member m out of set a and leaves set b: what each set has, or is still to gain, stays the same.
+  -- A turn of a walk takes member m out of set a and leaves set b: what each set has, or is still to gain, stays the
+  -- same.
   pub one-due : (a b : ℕ) → ((j : ℕ) → bit b j ≡ (bit a j && not (eqb m j))) → bit a m ≡ true → (t c j : ℕ) → c < 5
       → (bit (getD (set arcs (5 * m + k) v) (5 * t + c) 0) j || ((eqb c k && bit b t) && w j))
       ≡ (bit (getD arcs (5 * t + c) 0) j || ((eqb c k && bit a t) && w j))

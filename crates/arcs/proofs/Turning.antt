@@ -1,16 +1,18 @@
--- The rows are turned place by place: place q is bit q % 64 of word q / 64 of its transitions, so that each place has a bit of its own.
-use mathlib.Core.Bool.{Bool, true, false, _&&_, _||_, and-true, and-false, or-false}
+-- The rows are turned place by place: place q is bit q % 64 of word q / 64 of its transitions, so that each place has
+-- a bit of its own.
+use mathlib.Core.Bool.{Bool, true, false, _&&_, _||_, and-false, or-false}
 use mathlib.Core.List.{List}
 use mathlib.Core.Path.{_≡_, refl, sym, ap, _∙_}
 use Prim.Native.Nat.{ℕ, _+_, _*_, _/_, _%_, _≤_, _<_}
 use native.Mathlib.Omega.{arith}
 use lib.Dec.{eqb, ltb}
 use lib.ListN.{length, getD, replicate, length-replicate}
-use borrow.Author.Tests.{eqb-true, eqb-false, eq-eqb, ne-eqb, lt-ltb, le-ltb, ltb-true, ltb-false}
+use borrow.Author.Tests.{eqb-true, eqb-false, eq-eqb, ne-eqb, le-ltb}
 use Rattle.meaning.specs.Bytes.{bit}
 use Rattle.rows.specs.Rows.{inputs, takers}
 use Rattle.sets.proofs.Bits.{bit-zero}
 use Rattle.sets.proofs.Rows.{all-zero}
+use Rattle.sets.proofs.Walk.{one-more, below-end}
 use Rattle.arcs.specs.Arcs.{rivals-of, Put, Arcless-from, Turned}
 
 -- Of the five sets of transition t, the word that starts at set k has place q.
@@ -40,19 +42,24 @@ none-turned rows arcs e =
     empty : (i j : ℕ) → bit (getD arcs i 0) j ≡ false
     empty i j = rw (all-zero arcs (e ∙ rw size) i) (bit-zero j)
 
--- Place p is put into its word of each member of `to`: who had place q before has it, and so do the members of `to` if it is p.
-put-place : (arcs after : List ℕ) (k to p here : ℕ) → Put arcs to (k + p / 64) here after → ((j : ℕ) → bit here j ≡ eqb (p % 64) j)
+-- Place p is put into its word of each member of `to`: who had place q before has it, and so do the members of `to` if
+-- it is p.
+put-place : (arcs after : List ℕ) (k to p here : ℕ) → Put arcs to (k + p / 64) here after
+    → ((j : ℕ) → bit here j ≡ eqb (p % 64) j)
     → k < 3 → p < 128 → (t q : ℕ) → q < 128 → has-place after k t q ≡ (has-place arcs k t q || (bit to t && eqb p q))
 put-place arcs after k to p here g is few low t q h =
-    g .holds t (k + q / 64) (q % 64) (omega arith) ∙ rw (is (q % 64)) (ap (λ (x : Bool). has-place arcs k t q || x) (go (eqb p q) refl))
+    g .holds t (k + q / 64) (q % 64) (omega arith)
+    ∙ rw (is (q % 64)) (ap (λ (x : Bool). has-place arcs k t q || x) (go (eqb p q) refl))
   where
-    go : (x : Bool) → eqb p q ≡ x → ((eqb (k + q / 64) (k + p / 64) && bit to t) && eqb (p % 64) (q % 64)) ≡ (bit to t && x)
+    go : (x : Bool) → eqb p q ≡ x → ((eqb (k + q / 64) (k + p / 64) && bit to t) && eqb (p % 64) (q % 64))
+        ≡ (bit to t && x)
     go true e =
         let same : p ≡ q = eqb-true p q e in
         rw (eq-eqb (k + q / 64) (k + p / 64) (rw same), eq-eqb (p % 64) (q % 64) (rw same))
     go false e = apart (eqb (k + q / 64) (k + p / 64)) (eqb (p % 64) (q % 64)) refl refl
       where
-        apart : (x y : Bool) → eqb (k + q / 64) (k + p / 64) ≡ x → eqb (p % 64) (q % 64) ≡ y → ((x && bit to t) && y) ≡ (bit to t && false)
+        apart : (x y : Bool) → eqb (k + q / 64) (k + p / 64) ≡ x → eqb (p % 64) (q % 64) ≡ y
+            → ((x && bit to t) && y) ≡ (bit to t && false)
         apart true true x y =
             let differ : ¬ (p ≡ q) = eqb-false p q e in
             let half : k + q / 64 ≡ k + p / 64 = eqb-true (k + q / 64) (k + p / 64) x in
@@ -66,28 +73,12 @@ put-other : (arcs after : List ℕ) (to k here : ℕ) → Put arcs to k here aft
     → bit (getD after (5 * t + c) 0) j ≡ bit (getD arcs (5 * t + c) 0) j
 put-other arcs after to k here g t c j h apart = g .holds t c j h ∙ rw (ne-eqb c k apart) (or-false _)
 
--- Of the numbers below p + 1 that pass, one is p or they are below p; and where none from n on passes, all that pass are below n.
-pub one-more : (f : ℕ → Bool) (p q : ℕ) → ((ltb q p && f q) || (f p && eqb p q)) ≡ (ltb q (p + 1) && f q)
-one-more f p q = go (ltb q p) (eqb p q) refl refl
-  where
-    go : (x y : Bool) → ltb q p ≡ x → eqb p q ≡ y → ((x && f q) || (f p && y)) ≡ (ltb q (p + 1) && f q)
-    go true true e z = absurd (omega (arith, ltb-true q p e, eqb-true p q z))
-    go true false e z = rw (lt-ltb q (p + 1) (omega (arith, ltb-true q p e)), and-false (f p)) (or-false (f q))
-    go false true e z = rw (lt-ltb q (p + 1) (omega (arith, eqb-true p q z)), and-true (f p)) (ap f (eqb-true p q z))
-    go false false e z =
-        let apart : ¬ (p ≡ q) = eqb-false p q z in
-        rw (le-ltb q (p + 1) (omega (arith, ltb-false q p e)), and-false (f p))
-
-pub below-end : (n : ℕ) (f : ℕ → Bool) (q : ℕ) → (n ≤ q → f q ≡ false) → (ltb q n && f q) ≡ f q
-below-end n f q none = go (ltb q n) refl
-  where
-    go : (b : Bool) → ltb q n ≡ b → (b && f q) ≡ f q
-    go true e = refl
-    go false e = sym (none (ltb-false q n e))
-
--- Place p is put into the words of those with an input arc from it, and then of those that take from it: one place more is turned.
-pub one-turned : {rows arcs : List ℕ} {p : ℕ} → Turned-to rows arcs p → p < 128 → (here : ℕ) → ((j : ℕ) → bit here j ≡ eqb (p % 64) j)
-    → {between after : List ℕ} → Put arcs (inputs rows p) (0 + p / 64) here between → Put between (takers rows p) (2 + p / 64) here after
+-- Place p is put into the words of those with an input arc from it, and then of those that take from it: one place
+-- more is turned.
+pub one-turned : {rows arcs : List ℕ} {p : ℕ} → Turned-to rows arcs p → p < 128 → (here : ℕ)
+    → ((j : ℕ) → bit here j ≡ eqb (p % 64) j)
+    → {between after : List ℕ} → Put arcs (inputs rows p) (0 + p / 64) here between
+    → Put between (takers rows p) (2 + p / 64) here after
     → Turned-to rows after (p + 1)
 one-turned {rows} {arcs} {p} w low here is {between} {after} first second =
     record {
@@ -99,7 +90,8 @@ one-turned {rows} {arcs} {p} w low here is {between} {after} first second =
       takes = λ t q h.
           put-place between after 2 _ p here second is (omega arith) low t q h
           ∙ ap (λ (x : Bool). x || (bit (takers rows p) t && eqb p q))
-          (put-other arcs between _ _ here first t (2 + q / 64) (q % 64) (omega arith) (λ z. omega arith) ∙ w .takes t q h)
+          (put-other arcs between _ _ here first t (2 + q / 64) (q % 64) (omega arith) (λ z. omega arith)
+          ∙ w .takes t q h)
           ∙ one-more (λ q. bit (takers rows q) t) p q;
       no-rivals = λ t u.
           put-other between after _ _ here second t 4 u (omega arith) (λ z. omega arith)
@@ -112,11 +104,16 @@ pub all-turned : {rows arcs : List ℕ} {n p : ℕ} → Arcless-from n rows → 
 all-turned {rows} {arcs} {n} {p} arcless past w =
     record {
       size = w .size;
-      low-is = λ t q h l. at 0 t q 0 q (omega arith) (omega arith) ∙ w .asks t q (omega arith) ∙ asks t q h (omega arith);
-      high-is = λ t q h l. at 0 t (64 + q) 1 q (omega arith) (omega arith) ∙ w .asks t (64 + q) (omega arith) ∙ asks t (64 + q) h (omega arith);
-      takes-low-is = λ t q h l. at 2 t q 2 q (omega arith) (omega arith) ∙ w .takes t q (omega arith) ∙ takes t q h (omega arith);
+      low-is =
+          λ t q h l. at 0 t q 0 q (omega arith) (omega arith) ∙ w .asks t q (omega arith) ∙ asks t q h (omega arith);
+      high-is =
+          λ t q h l. at 0 t (64 + q) 1 q (omega arith) (omega arith) ∙ w .asks t (64 + q) (omega arith)
+          ∙ asks t (64 + q) h (omega arith);
+      takes-low-is =
+          λ t q h l. at 2 t q 2 q (omega arith) (omega arith) ∙ w .takes t q (omega arith) ∙ takes t q h (omega arith);
       takes-high-is = λ t q h l.
-          at 2 t (64 + q) 3 q (omega arith) (omega arith) ∙ w .takes t (64 + q) (omega arith) ∙ takes t (64 + q) h (omega arith);
+          at 2 t (64 + q) 3 q (omega arith) (omega arith) ∙ w .takes t (64 + q) (omega arith)
+          ∙ takes t (64 + q) h (omega arith);
       no-rivals = λ t u h. w .no-rivals t u;
     }
   where

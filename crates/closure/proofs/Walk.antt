@@ -119,10 +119,10 @@ module _ {rows : List ℕ} {t all left k all′ left′ : ℕ} (walk : Walk rows
   one-fewer =
       let split = sum-same 64 (ahead all left) (λ j. ahead all′ left′ j + cond (eqb k j) 1 0) (λ j h. one j) in
       let added = sum-add 64 (ahead all′ left′) (λ j. cond (eqb k j) 1 0) in
-      let lone : sum 64 (λ j. cond (eqb k j) 1 0) ≡ 1 =
+      let alone : sum 64 (λ j. cond (eqb k j) 1 0) ≡ 1 =
       sum-one 64 (λ j. cond (eqb k j) 1 0) k (turn .low) (λ j h n. rw (ne-eqb k j (λ e. n (sym e))))
       ∙ rw (eq-eqb k k refl) in
-      omega (arith, split, added, lone)
+      omega (arith, split, added, alone)
     where
       -- Whether j is k, is left, is found and is in the row of k.
       cases : (x l u r : Bool) → (x ≡ true → l ≡ true) → (l ≡ true → u ≡ true)

@@ -30,19 +30,19 @@ module _ (pairs rows : List ℕ) (w s : List (List ℕ)) (n : ℕ) where
   abbrev pub candidate : ℕ → Bool
   candidate = unsettled-by pairs rows w s n
 
-  abbrev pub loose : ℕ → ℕ → Bool
-  loose i j = bit (getD pairs i 0) j && not (settled-in rows w s n i j)
+  abbrev pub unsettled-pair : ℕ → ℕ → Bool
+  unsettled-pair i j = bit (getD pairs i 0) j && not (settled-in rows w s n i j)
 
-  pub loose-at : (i j : ℕ) → j < 64 → candidate (64 * i + j) ≡ loose i j
+  pub candidate-at : (i j : ℕ) → j < 64 → candidate (64 * i + j) ≡ unsettled-pair i j
   unfolding unsettled-by
-  loose-at i j h =
+  candidate-at i j h =
       let q : (64 * i + j) / 64 ≡ i = omega arith in
       let r : (64 * i + j) % 64 ≡ j = omega arith in
       rw (q, r)
 
-  -- Of i's row, whoever is not in what is left makes no loose pair with i.
+  -- Of i's row, whoever is not in what is left makes no unsettled pair with i.
   abbrev pub Out : ℕ → ℕ → Type 0
-  Out i left = (j : ℕ) → j < 64 → bit left j ≡ false → loose i j ≡ false
+  Out i left = (j : ℕ) → j < 64 → bit left j ≡ false → unsettled-pair i j ≡ false
 
   pub out-row : (i : ℕ) → Out i (getD pairs i 0)
   out-row i j h e = rw e
@@ -50,23 +50,23 @@ module _ (pairs rows : List ℕ) (w s : List (List ℕ)) (n : ℕ) where
   pub one-out : (i k left rest : ℕ) (r : Bool) → Out i left → ((j : ℕ) → bit rest j ≡ (bit left j && not (eqb k j)))
       → r ≡ settled-in rows w s n i k → not r ≡ false → Out i rest
   one-out i k left rest r out less e q j h z =
-      out-more left k rest less (λ j. j < 64 → loose i j ≡ false) (λ j z h. out j h z)
+      out-more left k rest less (λ j. j < 64 → unsettled-pair i j ≡ false) (λ j z h. out j h z)
       (λ h. rw (← e, q) (and-false (bit (getD pairs i 0) k))) j z h
 
-  -- The candidates before 64i and those of i below j are not loose, so none before 64i + j is.
-  pub up-to : (i j : ℕ) → j ≤ 64 → None candidate (64 * i) → ((k : ℕ) → k < j → loose i k ≡ false)
+  -- The candidates before 64i and those of i below j are settled, so none before 64i + j is.
+  pub up-to : (i j : ℕ) → j ≤ 64 → None candidate (64 * i) → ((k : ℕ) → k < j → unsettled-pair i k ≡ false)
       → None candidate (64 * i + j)
   up-to i j h none row k l =
       below-or-not k (64 * i) (none k)
       (λ m.
       let same : k ≡ 64 * i + (k - 64 * i) = omega arith in
-      ap candidate same ∙ loose-at i (k - 64 * i) (omega arith) ∙ row (k - 64 * i) (omega arith))
+      ap candidate same ∙ candidate-at i (k - 64 * i) (omega arith) ∙ row (k - 64 * i) (omega arith))
 
-  -- A loose pair with none before it is the first; where there is none the answer is 4096.
+  -- A unsettled pair with none before it is the first; where there is none the answer is 4096.
   pub found : (i j : ℕ) (r : Bool) → i < 64 → j < 64 → None candidate (64 * i + j) → bit (getD pairs i 0) j ≡ true
       → r ≡ settled-in rows w s n i j → not r ≡ true → 64 * i + j ≡ first 4096 candidate
   found i j r h l none has e q =
-      sym (first-is 4096 candidate (64 * i + j) (omega arith) (loose-at i j l ∙ rw (has, ← e, q)) none)
+      sym (first-is 4096 candidate (64 * i + j) (omega arith) (candidate-at i j l ∙ rw (has, ← e, q)) none)
 
   pub not-found : (i r : ℕ) → ((k j : ℕ) → i ≤ k → k < 64 → j < 64 → bit (getD pairs k 0) j ≡ false) → r ≡ 4096
       → None candidate (64 * i)
@@ -80,5 +80,5 @@ module _ (pairs rows : List ℕ) (w s : List (List ℕ)) (n : ℕ) where
       (λ m.
       let same : k ≡ 64 * (k / 64) + k % 64 = omega arith in
       let low : k % 64 < 64 = omega arith in
-      ap candidate same ∙ loose-at (k / 64) (k % 64) low
+      ap candidate same ∙ candidate-at (k / 64) (k % 64) low
       ∙ rw (blank (k / 64) (k % 64) (omega arith) (omega arith) low))))

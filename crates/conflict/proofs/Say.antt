@@ -9,7 +9,7 @@ use lib.Dec.{ltb}
 use Rattle.meaning.specs.Below.{first}
 use Rattle.meaning.specs.Table.{Table}
 use Rattle.meaning.specs.Priority.{above}
-use Rattle.meaning.specs.Defined.{conflict, complementary, inhibited, settled, unsettled, clashes}
+use Rattle.meaning.specs.Defined.{conflict, complementary, inhibited, settled, unsettled, in-unsettled}
 use Rattle.meaning.proofs.Bool.{and-true}
 use Rattle.meaning.proofs.Below.{some-intro, none-intro, first-passes, first-before, first-is}
 use Rattle.meaning.proofs.Rows.{transition-decides, unsettled-decides}
@@ -17,7 +17,7 @@ use Rattle.meaning.proofs.Tables.{arc-transition}
 use Rattle.rows.specs.declared.Declared.{Declared}
 use Rattle.conflict.specs.Pairs.{Conflicts}
 use Rattle.conflict.specs.Settled.{settled-in, unsettled-by}
-use Rattle.conflict.proofs.Candidates.{loose-at}
+use Rattle.conflict.proofs.Candidates.{candidate-at}
 use Rattle.conflict.proofs.Whole.{Whole, conflict-same}
 use Rattle.conflict.proofs.Wanted.{crossed-same}
 use Rattle.conflict.proofs.Inhibited.{apart-same}
@@ -46,7 +46,7 @@ module _ {tb : Table} {n : ℕ} {rows : List ℕ} {w s : List (List ℕ)} {heads
   pub unsettled-same : (i j : ℕ) → i < 64 → j < 64 → unsettled-by pairs rows w s n (64 * i + j) ≡ unsettled tb i j
   unfolding unsettled
   unsettled-same i j h l =
-      loose-at pairs rows w s n i j l
+      candidate-at pairs rows w s n i j l
       ∙ rw (settled-same i j h l, conflicts .holds i j h l, conflict-same whole i j h l)
       (in-order (ltb i j) (conflict tb i j) (not (settled tb i j)))
 
@@ -57,24 +57,24 @@ module _ {tb : Table} {n : ℕ} {rows : List ℕ} {w s : List (List ℕ)} {heads
       ∙ first-before 4096 (unsettled-by pairs rows w s n) (64 * i + j) m
 
   -- A transition all of whose pairs stand before it is in no unsettled pair.
-  no-clash : (i : ℕ) → i < 64 → 64 * i + 63 < first 4096 (unsettled-by pairs rows w s n) → clashes tb i ≡ false
-  unfolding clashes
-  no-clash i h m = rw (none-intro 64 (unsettled tb i) (λ j l. before-first i j h l (omega arith)), and-false)
+  none-unsettled : (i : ℕ) → i < 64 → 64 * i + 63 < first 4096 (unsettled-by pairs rows w s n) → in-unsettled tb i ≡ false
+  unfolding in-unsettled
+  none-unsettled i h m = rw (none-intro 64 (unsettled tb i) (λ j l. before-first i j h l (omega arith)), and-false)
 
-  -- A transition in an unsettled pair is declared, and clashes.
-  a-clash : (i j : ℕ) → j < 64 → unsettled tb i j ≡ true → clashes tb i ≡ true
-  unfolding clashes
-  a-clash i j l e =
+  -- A transition in an unsettled pair is declared, and in-unsettled.
+  one-unsettled : (i j : ℕ) → j < 64 → unsettled tb i j ≡ true → in-unsettled tb i ≡ true
+  unfolding in-unsettled
+  one-unsettled i j l e =
       let c = unsettled-decides tb i j (whole .laid .shown) .0 e .1 .0 in
       and-true (transition-decides tb i .1 (arc-transition tb (whole .declared) (c .3)))
       (some-intro 64 (unsettled tb i) j l e)
 
-  -- The first candidate is the least unsettled pair: the least transition that clashes, and the least that it clashes
-  -- with.
+  -- The first candidate is the least unsettled pair: the least transition that in-unsettled, and the least that it
+  -- in-unsettled with.
   pub least-pair : first 4096 (unsettled-by pairs rows w s n) < 4096
-      → (first 64 (clashes tb) < 64)
+      → (first 64 (in-unsettled tb) < 64)
       × (first 4096 (unsettled-by pairs rows w s n)
-      ≡ 64 * first 64 (clashes tb) + first 64 (unsettled tb (first 64 (clashes tb))))
+      ≡ 64 * first 64 (in-unsettled tb) + first 64 (unsettled tb (first 64 (in-unsettled tb))))
   least-pair low = (omega (arith, here), rw (here, there) whole-pair)
     where
       k : ℕ
@@ -83,22 +83,22 @@ module _ {tb : Table} {n : ℕ} {rows : List ℕ} {w s : List (List ℕ)} {heads
       whole-pair : k ≡ 64 * (k / 64) + k % 64
       whole-pair = omega arith
 
-      loose-pair : unsettled tb (k / 64) (k % 64) ≡ true
-      loose-pair =
+      first-unsettled : unsettled tb (k / 64) (k % 64) ≡ true
+      first-unsettled =
           sym (unsettled-same (k / 64) (k % 64) (omega arith) (omega arith))
           ∙ ap (unsettled-by pairs rows w s n) (sym whole-pair)
           ∙ first-passes 4096 (unsettled-by pairs rows w s n) low
 
-      here : first 64 (clashes tb) ≡ k / 64
+      here : first 64 (in-unsettled tb) ≡ k / 64
       here =
-          first-is 64 (clashes tb) (k / 64) (omega arith) (a-clash (k / 64) (k % 64) (omega arith) loose-pair)
-          (λ i l. no-clash i (omega arith) (omega arith))
+          first-is 64 (in-unsettled tb) (k / 64) (omega arith) (one-unsettled (k / 64) (k % 64) (omega arith) first-unsettled)
+          (λ i l. none-unsettled i (omega arith) (omega arith))
 
       there : first 64 (unsettled tb (k / 64)) ≡ k % 64
       there =
-          first-is 64 (unsettled tb (k / 64)) (k % 64) (omega arith) loose-pair
+          first-is 64 (unsettled tb (k / 64)) (k % 64) (omega arith) first-unsettled
           (λ j l. before-first (k / 64) j (omega arith) (omega arith) (omega arith))
 
-  -- Where there is no candidate nothing clashes.
-  pub no-pair : first 4096 (unsettled-by pairs rows w s n) ≡ 4096 → (i : ℕ) → i < 64 → clashes tb i ≡ false
-  no-pair e i h = no-clash i h (omega arith)
+  -- Where there is no candidate nothing in-unsettled.
+  pub no-pair : first 4096 (unsettled-by pairs rows w s n) ≡ 4096 → (i : ℕ) → i < 64 → in-unsettled tb i ≡ false
+  no-pair e i h = none-unsettled i h (omega arith)

@@ -1,33 +1,17 @@
 -- Who takes from one place, the lowest taken off one after the other: what is left then are the takers after it.
 use mathlib.Core.Bool.{Bool, true, false, not, _&&_, _||_, and-true, and-false, or-false}
 use mathlib.Core.List.{List}
-use mathlib.Core.Logic.{⊎-elim, inl, inr}
+use mathlib.Core.Logic.{inl, inr}
 use mathlib.Core.Path.{_≡_, refl, sym, _∙_}
-use Prim.Native.Nat.{ℕ, _≤_, _<_}
+use Prim.Native.Nat.{ℕ, _<_}
 use native.Mathlib.Omega.{arith}
 use lib.Dec.{eqb, ltb}
 use lib.ListN.{length, getD, set}
 use lib.Seq.{getD-set-same, getD-set-other}
-use borrow.Author.Tests.{eqb-true, eqb-false, eq-eqb, ne-eqb, lt-ltb, le-ltb, ltb-true, ltb-false}
-use Rattle.meaning.specs.Below.{some}
+use borrow.Author.Tests.{eqb-true, eqb-false, eq-eqb, ne-eqb, lt-ltb, le-ltb}
 use Rattle.meaning.specs.Bytes.{bit}
-use Rattle.meaning.proofs.Bool.{not-both, same-test, either}
-use Rattle.meaning.proofs.Below.{some-intro, some-elim}
 use Rattle.meaning.proofs.Walk.{compared}
 use Rattle.sets.proofs.Bits.{bit-zero}
-
--- Where none from n on passes, some below m passes exactly if some below n does.
-pub some-short : (n m : ℕ) (p : ℕ → Bool) → n ≤ m → ((k : ℕ) → n ≤ k → k < m → p k ≡ false) → some n p ≡ some m p
-some-short n m p h f =
-    same-test (some n p) (some m p)
-    (λ e.
-    let w = some-elim n p e in
-    some-intro m p (w .0) (omega (arith, w .1)) (w .2))
-    (λ e.
-    let w = some-elim m p e in
-    ⊎-elim (λ (t : ltb (w .0) n ≡ true). some-intro n p (w .0) (ltb-true (w .0) n t) (w .2))
-    (λ (t : ltb (w .0) n ≡ false). not-both (w .2) (f (w .0) (ltb-false (w .0) n t) (w .1)))
-    (either (ltb (w .0) n)))
 
 -- The later j is with i, or is to come to it: both are among those that are left.
 abbrev pub due : List ℕ → ℕ → ℕ → ℕ → Bool

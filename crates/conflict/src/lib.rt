@@ -28,8 +28,8 @@ fn pair_up(pairs: &mut [u64; 64], takers: u64)
     }
 }
 
-// For each transition i the later ones in conflict with it. From place n on nobody takes; the rows of the pairs are lent
-// empty.
+// For each transition i the later ones in conflict with it. From place n on nobody takes; the rows of the pairs are
+// lent empty.
 pub fn conflicts(rows: &[u64], pairs: &mut [u64; 64], n: usize)
     requires { ⌜ Takerless-from n (now rows) × (now pairs ≡ replicate 64 0) ⌝ }
     ensures { λ _. ⌜ Conflicts (now (rows .entry)) (now (pairs .exit)) ⌝ }
@@ -120,7 +120,8 @@ fn later(pairs: &[u64; 64], i: usize) -> u64
 // it.
 pub fn least(pairs: &[u64; 64], rows: &[u64], w: &[[u16; 64]], s: &[[u8; 64]], n: usize) -> usize
     requires { ⌜ Least-asks n (now pairs) (now rows) (now w) (now s) ⌝ }
-    ensures { λ r. ⌜ r ≡ first 4096 (unsettled-by (now (pairs .entry)) (now (rows .entry)) (now (w .entry)) (now (s .entry)) n) ⌝ }
+    ensures { λ r. ⌜ r ≡ first 4096 (unsettled-by (now (pairs .entry)) (now (rows .entry)) (now (w .entry))
+        (now (s .entry)) n) ⌝ }
 {
     let mut found = 4096;
     'search: for i in 0..rows::transitions(n) {

@@ -1,10 +1,9 @@
 -- A table whose numbers are below n has nothing from n on in its rows; so what is laid out for them is the table's.
-use mathlib.Core.Bool.{Bool, true, false, cond}
+use mathlib.Core.Bool.{false}
 use mathlib.Core.List.{List}
-use mathlib.Core.Path.{_≡_, refl, ap, _∙_}
-use Prim.Native.Nat.{ℕ, zero, suc, _*_, _/_, _≤_, _<_}
+use mathlib.Core.Path.{_≡_, ap, _∙_}
+use Prim.Native.Nat.{ℕ, _*_, _/_, _≤_, _<_}
 use native.Mathlib.Omega.{arith}
-use lib.Dec.{ltb}
 use lib.ListN.{length}
 use borrow.Author.Tests.{eqb-true}
 use Rattle.meaning.specs.Bytes.{bit}
@@ -14,28 +13,15 @@ use Rattle.meaning.proofs.Bool.{and-right}
 use Rattle.meaning.proofs.Closure.{closed}
 use Rattle.meaning.proofs.Reflect.{not-true-false}
 use Rattle.rows.specs.declared.Declared.{Declared}
-use Rattle.rows.specs.Filed.{latest, declares, limit-in, Net-of}
-use Rattle.rows.specs.Rows.{below, limit-of, transitions-below}
-use Rattle.rows.proofs.Few.{transitions-le}
+use Rattle.rows.specs.Filed.{declares, limit-in, Net-of}
+use Rattle.rows.specs.Rows.{below, limit-of}
+use Rattle.rows.proofs.Few.{transitions-le, past}
+use Rattle.rows.proofs.Times.{latest-none}
 use Rattle.turn.specs.declared.Net.{Net}
 use Rattle.turn.specs.Turn.{Laid}
 use Rattle.turn.proofs.Rows.{no-bit}
 use Rattle.cycles.specs.Lay.{Lay-asks, Lays}
 use Rattle.cycles.specs.Cycles.{Cycles-of, Play-of}
-
--- A transition that is not among those below n is at n or past it.
-past : (n t : ℕ) → transitions-below n ≤ t → t < 64 → n ≤ t
-past n t l h = go (ltb n 64) refl l
-  where
-    go : (b : Bool) → ltb n 64 ≡ b → cond b n 64 ≤ t → n ≤ t
-    go true e k = k
-    go false e k = absurd (omega (arith, k, h))
-
--- Where no record passes, the last of them says nothing.
-latest-none : (m : ℕ) (p : ℕ → Bool) (f : ℕ → ℕ) → ((k : ℕ) → k < m → p k ≡ false) → latest m p f ≡ 0
-unfolding latest
-latest-none zero p f none = refl
-latest-none (suc m) p f none = rw (none m (omega arith)) (latest-none m p f (λ k h. none k (omega (arith, h))))
 
 -- Whoever stands above another is the higher one of a pair.
 higher-low : {tb : Table} {n u t : ℕ} → ((r : ℕ) → r < tb .records → tb .one r < n) → Above tb u t → u < n

@@ -27,7 +27,7 @@ use Rattle.turn.specs.declared.Net.{Net}
 use Rattle.turn.specs.declared.Outcome.{Outcome}
 use Rattle.turn.specs.Turn.{Poised, Stepped}
 use Rattle.cycles.specs.Cycles.{all-words, Cycles-of, Done, Broke}
-use Rattle.cycles.proofs.Words.{words-from}
+use Rattle.numbers.proofs.Spelt.{words-from}
 
 -- After i turns: the meaning's run has reached an image, the arrays hold its state, and the report holds its records.
 pub record At (bs img ws report : List ℕ) (i : ℕ) (tokens counters : List ℕ) (orders : ℕ) (out : List ℕ) : Type 0 where

@@ -1,4 +1,5 @@
--- The walk over the transitions with conditions: each turn drops one if its conditions are not as wanted, and who stays in the end is the same.
+-- The walk over the transitions with conditions: each turn drops one if its conditions are not as wanted, and who
+-- stays in the end is the same.
 use mathlib.Core.Bool.{Bool, true, false, cond, not, _&&_, _||_, and-true, and-false}
 use mathlib.Core.Path.{_≡_, refl, sym, ap, _∙_}
 use Prim.Native.Nat.{ℕ, _^_, _<_}
@@ -20,8 +21,10 @@ pub record Sifted (q : ℕ → Bool) (conditional able₀ left₀ able left : �
 
 -- A turn takes member k out of set a and leaves set b; k is dropped unless it passes.
 module _ (a k b : ℕ) (rest : (j : ℕ) → bit b j ≡ (bit a j && not (eqb k j))) (has : bit a k ≡ true) where
-  pub one-sifted : {q : ℕ → Bool} {conditional able₀ left₀ : ℕ} (able : ℕ) → Sifted q conditional able₀ left₀ able a → b < 2 ^ 64 → (after : ℕ)
-      → after < 2 ^ 64 → (said : Bool) → said ≡ q k → ((j : ℕ) → bit after j ≡ (bit able j && not (not said && eqb k j)))
+  pub one-sifted : {q : ℕ → Bool} {conditional able₀ left₀ : ℕ} (able : ℕ) → Sifted q conditional able₀ left₀ able a
+      → b < 2 ^ 64 → (after : ℕ)
+      → after < 2 ^ 64 → (said : Bool) → said ≡ q k
+      → ((j : ℕ) → bit after j ≡ (bit able j && not (not said && eqb k j)))
       → Sifted q conditional able₀ left₀ after b
   one-sifted {q} able w small after bounded said passes loses =
       record {
@@ -36,7 +39,8 @@ module _ (a k b : ℕ) (rest : (j : ℕ) → bit b j ≡ (bit a j && not (eqb k 
       here true false = refl
       here false y = refl
 
-      go : (t : ℕ) (x : Bool) → eqb k t ≡ x → (bit after t && (not (bit b t) || q t)) ≡ (bit able t && (not (bit a t) || q t))
+      go : (t : ℕ) (x : Bool) → eqb k t ≡ x → (bit after t && (not (bit b t) || q t))
+          ≡ (bit able t && (not (bit a t) || q t))
       go t true y = rw (← eqb-true k t y, loses k, rest k, has, eq-eqb k k refl, ← passes) (here (bit able k) said)
       go t false y = rw (loses t, rest t, y, and-false (not said), and-true (bit able t), and-true (bit a t))
 
@@ -49,10 +53,12 @@ unasked looks wanted word e =
     (λ k h. rw (eqb-true looks 0 (not-false _ e), bit-zero k)))
 
 -- So asking only where something is looked at asks all, once nothing is left.
-pub all-asked : {q : ℕ → Bool} {conditional before able left : ℕ} → Sifted q conditional before (bitAnd before conditional) able left → left ≡ 0
+pub all-asked : {q : ℕ → Bool} {conditional before able left : ℕ}
+    → Sifted q conditional before (bitAnd before conditional) able left → left ≡ 0
     → (t : ℕ) → (bit conditional t ≡ false → q t ≡ true) → bit able t ≡ (bit before t && q t)
 all-asked {q} {conditional} {before} {able} w e t free =
-    sym (rw (e, bit-zero t) (and-true (bit able t))) ∙ w .stays t ∙ rw (bit-and before conditional t) (go (bit before t) (bit conditional t) free)
+    sym (rw (e, bit-zero t) (and-true (bit able t))) ∙ w .stays t
+    ∙ rw (bit-and before conditional t) (go (bit before t) (bit conditional t) free)
   where
     go : (x y : Bool) → (y ≡ false → q t ≡ true) → (x && (not (x && y) || q t)) ≡ (x && q t)
     go true true f = refl
@@ -60,7 +66,8 @@ all-asked {q} {conditional} {before} {able} w e t free =
     go false y f = refl
 
 -- What is known of a set below 64 is all there is to know.
-pub below-64 : (f : ℕ → Bool) (r : ℕ) → r < 2 ^ 64 → ((t : ℕ) → t < 64 → bit r t ≡ f t) → (t : ℕ) → bit r t ≡ (ltb t 64 && f t)
+pub below-64 : (f : ℕ → Bool) (r : ℕ) → r < 2 ^ 64 → ((t : ℕ) → t < 64 → bit r t ≡ f t) → (t : ℕ)
+    → bit r t ≡ (ltb t 64 && f t)
 below-64 f r h known t = go (ltb t 64) refl
   where
     go : (b : Bool) → ltb t 64 ≡ b → bit r t ≡ (b && f t)

@@ -11,7 +11,6 @@ use lib.ListN.{length, replicate}
 use borrow.Author.Tests.{ltb-true, ltb-false}
 use Rattle.meaning.specs.Table.{Table, table}
 use Rattle.meaning.specs.Defined.{bad-length}
-use Rattle.rows.specs.declared.Declared.{Declared}
 use Rattle.meaning.proofs.Below.{last}
 use Rattle.rows.specs.Extent.{top, extent-of, Roomy}
 use Rattle.judge.specs.declared.Verdict.{Verdict}

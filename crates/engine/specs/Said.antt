@@ -1,7 +1,6 @@
 -- What the engine's answers and parts say, in the words of the meaning.
 use mathlib.Core.Bool.{not}
 use mathlib.Core.List.{List, _∷_}
-use mathlib.Core.Path.{_≡_}
 use Prim.Native.Nat.{ℕ, _*_, _≤_}
 use lib.Dec.{eqb}
 use lib.ListN.{length}

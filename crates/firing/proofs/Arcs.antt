@@ -1,12 +1,12 @@
 -- An arc stops a transition by the rows of an accepted table exactly if it does by the table: the cells of its place
 -- and transition hold it.
-use mathlib.Core.Bool.{Bool, true, false, not, _&&_}
+use mathlib.Core.Bool.{Bool, true, not, _&&_}
 use mathlib.Core.List.{List}
 use mathlib.Core.Path.{_≡_, refl, sym, ap, _∙_}
 use Prim.Native.Nat.{ℕ, _<_}
 use native.Mathlib.Omega.{arith}
-use lib.Dec.{leb, ltb, eqb}
-use borrow.Author.Tests.{eqb-true, eqb-false, eq-eqb, ne-eqb, ltb-true, ltb-false, lt-ltb, lt-leb, le-leb, not-true}
+use lib.Dec.{eqb}
+use borrow.Author.Tests.{eqb-true, eqb-false, eq-eqb, ne-eqb, lt-ltb, not-true}
 use Rattle.meaning.specs.Below.{some}
 use Rattle.meaning.specs.Bytes.{bit}
 use Rattle.meaning.specs.Table.{Table, table, is, post}
@@ -16,16 +16,8 @@ use Rattle.meaning.proofs.Below.{some-intro, some-elim}
 use Rattle.rows.specs.declared.Declared.{Declared}
 use Rattle.rows.specs.Rows.{inputs}
 use Rattle.rows.specs.Filed.{input, joins, Net-of}
-use Rattle.rows.proofs.Arcs.{Laid, accepted-laid, input-test, joins-test, ranges, inputs-are, cell-of}
+use Rattle.rows.proofs.Arcs.{at-most, Laid, accepted-laid, input-test, joins-test, ranges, inputs-are, cell-of}
 use Rattle.firing.specs.Fired.{stops-with}
-
--- At most is not above.
-at-most : (a b : ℕ) → leb a b ≡ not (ltb b a)
-at-most a b = go (ltb b a) refl
-  where
-    go : (x : Bool) → ltb b a ≡ x → leb a b ≡ not x
-    go true e = lt-leb a b (ltb-true b a e)
-    go false e = le-leb a b (ltb-false b a e)
 
 module _ {bs : List ℕ} {n : ℕ} {rows : List ℕ} {w s : List (List ℕ)} {heads posts times : List ℕ} {known : Declared}
     (net : Net-of bs n rows w s heads posts times known) where

@@ -1,5 +1,6 @@
--- From the rows to the meaning: what the fired rivals of a transition take by the rows is what the fired ones above it withdraw by the table, wherever it
--- has an input arc, so a set that fires by the rows meets definition 6, and only the fired set does.
+-- From the rows to the meaning: what the fired rivals of a transition take by the rows is what the fired ones above it
+-- withdraw by the table, wherever it has an input arc, so a set that fires by the rows meets definition 6, and only
+-- the fired set does.
 use mathlib.Core.Bool.{Bool, true, false, cond, not, _&&_, _||_, and-true, and-false}
 use mathlib.Core.List.{List}
 use mathlib.Core.Path.{_≡_, refl, sym, ap, ap₂, _∙_}
@@ -23,20 +24,23 @@ use Rattle.meaning.proofs.Accepted.{accepted-well}
 use Rattle.meaning.proofs.Fired.{and-same, height, height-falls, height-bound, agree, fired-meets}
 use Rattle.sets.proofs.Bits.{bit-zero, bit-and}
 use Rattle.rows.specs.declared.Declared.{Declared}
-use Rattle.rows.specs.Rows.{inputs, takers, below, cell}
+use Rattle.rows.specs.Rows.{inputs, takers, below, cell, taken-at}
 use Rattle.rows.specs.Filed.{input, joins, Sizes, Net-of}
 use Rattle.arcs.specs.Arcs.{low, high, rivals-of, rival, Rivals}
-use Rattle.arcs.proofs.Meeting.{some-split}
-use Rattle.firing.specs.Fired.{taken-at, stops-with, stopped-at, left-enabled, keeps, There, Housed, Ranks, Fires}
+use Rattle.sets.proofs.Some.{some-split}
+use Rattle.firing.specs.Fired.{stops-with, stopped-at, left-enabled, keeps, There, Housed, Ranks, Fires}
 use Rattle.rows.proofs.Arcs.{accepted-laid, joins-test, inputs-are}
 use Rattle.firing.proofs.Arcs.{enabled-is}
 use Rattle.firing.proofs.Taken.{taken-is}
 
 -- Whoever is firable is enabled.
-firable-enabled : (tb : Table) (st : State) (word t : ℕ) → firable tb st word t ≡ true → enabled tb (st .tokens) t ≡ true
+firable-enabled : (tb : Table) (st : State) (word t : ℕ) → firable tb st word t ≡ true
+    → enabled tb (st .tokens) t ≡ true
 unfolding firable
 firable-enabled tb st word t e =
-    let rest = and-right (transition tb t) (enabled tb (st .tokens) t && as-wanted tb word t && in-time tb (st .counter t) t) e in
+    let rest =
+    and-right (transition tb t) (enabled tb (st .tokens) t && as-wanted tb word t && in-time tb (st .counter t) t)
+    e in
     and-left _ (as-wanted tb word t) (and-left _ (in-time tb (st .counter t) t) rest)
 
 module _ {bs : List ℕ} {n : ℕ} {rows : List ℕ} {w s : List (List ℕ)} {heads posts times : List ℕ} {known : Declared}
@@ -62,7 +66,9 @@ module _ {bs : List ℕ} {n : ℕ} {rows : List ℕ} {w s : List (List ℕ)} {he
   -- A place with an input arc is below n.
   pub near : (p t : ℕ) → p < 128 → t < 64 → bit (inputs rows p) t ≡ true → p < n
   near p t h l e =
-      let r = some-elim (tb .records) (λ r. input tb r && joins tb p t r) (sym (inputs-are (accepted-laid net) p t h l) ∙ e) in
+      let r =
+      some-elim (tb .records) (λ r. input tb r && joins tb p t r)
+      (sym (inputs-are (accepted-laid net) p t h l) ∙ e) in
       let place : tb .one (r .0) ≡ p = joins-test tb p t (r .0) (and-right (input tb (r .0)) _ (r .2)) .0 in
       omega (arith, net .below (r .0) (r .1))
 
@@ -88,10 +94,12 @@ module _ {bs : List ℕ} {n : ℕ} {rows : List ℕ} {w s : List (List ℕ)} {he
       → (some 64 (λ p. bit (low arcs t) p && f (0 + p)) || some 64 (λ p. bit (high arcs t) p && f (64 + p)))
       ≡ some 128 (λ p. bit (inputs rows p) t && f p)
   by-places f t h =
-      ap₂ (λ (a b : Bool). a || b) (some-same 64 _ _ (λ p l. rw (x .low-is t p h l, zero-add p))) (some-same 64 _ _ (λ p l. rw (x .high-is t p h l)))
+      ap₂ (λ (a b : Bool). a || b) (some-same 64 _ _ (λ p l. rw (x .low-is t p h l, zero-add p)))
+      (some-same 64 _ _ (λ p l. rw (x .high-is t p h l)))
       ∙ sym (some-split 64 64 (λ p. bit (inputs rows p) t && f p))
 
-  -- Whoever takes from a place of an input arc of t and stands above t is a rival: what the rivals in r take there is what those above t withdraw.
+  -- Whoever takes from a place of an input arc of t and stands above t is a rival: what the rivals in r take there is
+  -- what those above t withdraw.
   rivals-take : (r t p : ℕ) → t < 64 → p < 128 → bit (inputs rows p) t ≡ true
       → taken-at (bitAnd r (rivals-of arcs t)) rows w p ≡ withdrawn tb (λ u. bit r u && above tb u t) p
   rivals-take r t p h l i =
@@ -111,10 +119,12 @@ module _ {bs : List ℕ} {n : ℕ} {rows : List ℕ} {w s : List (List ℕ)} {he
       go u k false e = and-false (bit (bitAnd r (rivals-of arcs t)) u) ∙ sym (and-false (bit r u && above tb u t))
 
   module _ (st : State) (m : List ℕ) (tokens : (p : ℕ) → p < 128 → getD m p 0 ≡ st .tokens p) where
-    -- At a place of its input arcs t is stopped by what its rivals in r leave exactly if it is by its residual marking: where they take nothing the
-    -- marking itself does not stop it.
-    stopped-is : (r t p : ℕ) → t < 64 → p < 128 → bit (inputs rows p) t ≡ true → stops-with (st .tokens p) w s t p ≡ false
-        → stopped-at m rows w s (bitAnd r (rivals-of arcs t)) t p ≡ stops-with (residual tb (st .tokens) (bit r) t p) w s t p
+    -- At a place of its input arcs t is stopped by what its rivals in r leave exactly if it is by its residual
+    -- marking: where they take nothing the marking itself does not stop it.
+    stopped-is : (r t p : ℕ) → t < 64 → p < 128 → bit (inputs rows p) t ≡ true
+        → stops-with (st .tokens p) w s t p ≡ false
+        → stopped-at m rows w s (bitAnd r (rivals-of arcs t)) t p
+        ≡ stops-with (residual tb (st .tokens) (bit r) t p) w s t p
     unfolding residual
     stopped-is r t p h l i off = go (eqb (bitAnd g (takers rows p)) 0) refl
       where
@@ -129,7 +139,8 @@ module _ {bs : List ℕ} {n : ℕ} {rows : List ℕ} {w s : List (List ℕ)} {he
         go true z =
             let none : taken-at g rows w p ≡ 0 =
             sum-zero 64 _
-            (λ u k. rw (sym (bit-and g (takers rows p) u) ∙ ap (λ (y : ℕ). bit y u) (eqb-true (bitAnd g (takers rows p)) 0 z) ∙ bit-zero u)) in
+            (λ u k. rw (sym (bit-and g (takers rows p) u)
+            ∙ ap (λ (y : ℕ). bit y u) (eqb-true (bitAnd g (takers rows p)) 0 z) ∙ bit-zero u)) in
             let same : st .tokens p - out ≡ st .tokens p = omega (arith, rivals-take r t p h l i) in
             sym (ap (λ (k : ℕ). stops-with k w s t p) same ∙ off)
         go false z = ap₂ (λ (a b : ℕ). stops-with (a - b) w s t p) (tokens p l) (rivals-take r t p h l i)
@@ -151,7 +162,8 @@ module _ {bs : List ℕ} {n : ℕ} {rows : List ℕ} {w s : List (List ℕ)} {he
             (not-true _ (enabled-is net (st .tokens) t h ∙ firable-enabled tb st word t e)) p l)
 
     -- A set that fires by the rows is the fired set.
-    pub fires-is : (word able : ℕ) → ((t : ℕ) → t < 64 → bit able t ≡ firable tb st word t) → (r : ℕ) → Fires able m rows arcs w s r
+    pub fires-is : (word able : ℕ) → ((t : ℕ) → t < 64 → bit able t ≡ firable tb st word t) → (r : ℕ)
+        → Fires able m rows arcs w s r
         → (t : ℕ) → t < 64 → bit r t ≡ within (fired tb st word) t
     unfolding rule
     fires-is word able is-able r f t h =

@@ -1,4 +1,5 @@
--- One round keeps what the fired set has to meet: a decided transition has none of those left for a rival, so what it was decided by stays as it was.
+-- One round keeps what the fired set has to meet: a decided transition has none of those left for a rival, so what it
+-- was decided by stays as it was.
 use mathlib.Core.Bool.{Bool, true, false, not, _&&_, _||_, and-true, and-false, or-false}
 use mathlib.Core.List.{List}
 use mathlib.Core.Path.{_≡_, refl, sym, ap, _∙_}
@@ -18,12 +19,16 @@ use Rattle.firing.specs.declared.Round.{Round}
 use Rattle.firing.specs.Fired.{stopped-at, left-enabled, pays, keeps, Ranks, waits-for, Decided, Fires}
 
 -- Where the set g takes nothing, nothing of it stops t.
-pub spared : (m rows : List ℕ) (w s : List (List ℕ)) (near far g t : ℕ) → g ≡ 0 → left-enabled m rows w s near far g t ≡ true
+pub spared : (m rows : List ℕ) (w s : List (List ℕ)) (near far g t : ℕ) → g ≡ 0
+    → left-enabled m rows w s near far g t ≡ true
 unfolding left-enabled
-spared m rows w s near far g t e = ap not (or-none (none-intro 64 _ (λ p h. untouched near p (0 + p))) (none-intro 64 _ (λ p h. untouched far p (64 + p))))
+spared m rows w s near far g t e =
+    ap not (or-none (none-intro 64 _ (λ p h. untouched near p (0 + p)))
+    (none-intro 64 _ (λ p h. untouched far p (64 + p))))
   where
     untouched : (word k p : ℕ) → (bit word k && stopped-at m rows w s g t p) ≡ false
-    untouched word k p = rw (eq-eqb (bitAnd g (takers rows p)) 0 (omega (arith, and-le-l g (takers rows p)))) (and-false (bit word k))
+    untouched word k p =
+        rw (eq-eqb (bitAnd g (takers rows p)) 0 (omega (arith, and-le-l g (takers rows p)))) (and-false (bit word k))
 
 -- A walk over the members of `left` has `todo` to come: x has what the base has, and those passed of which f holds.
 abbrev pub Passed : ℕ → ℕ → ℕ → (ℕ → Bool) → ℕ → Type 0
@@ -42,13 +47,15 @@ pub all-passed : (base left todo : ℕ) (f : ℕ → Bool) (x : ℕ) → todo �
 all-passed base left todo f x e p t h = p t h ∙ rw (e, bit-zero t, and-true (bit left t))
 
 -- Member k is passed.
-one-passed : (base left todo : ℕ) (f : ℕ → Bool) (x k after next : ℕ) (said : Bool) → k < 64 → bit todo k ≡ true → bit left k ≡ true
+one-passed : (base left todo : ℕ) (f : ℕ → Bool) (x k after next : ℕ) (said : Bool) → k < 64 → bit todo k ≡ true
+    → bit left k ≡ true
     → ((j : ℕ) → bit next j ≡ (bit todo j && not (eqb k j)))
     → ((j : ℕ) → bit after j ≡ (bit x j || (said && eqb k j))) → said ≡ f k
     → Passed base left todo f x → Passed base left next f after
 one-passed base left todo f x k after next said l mine has rest gains same p t h = gains t ∙ go (eqb k t) refl
   where
-    go : (b : Bool) → eqb k t ≡ b → (bit x t || (said && eqb k t)) ≡ (bit base t || ((bit left t && not (bit next t)) && f t))
+    go : (b : Bool) → eqb k t ≡ b → (bit x t || (said && eqb k t))
+        ≡ (bit base t || ((bit left t && not (bit next t)) && f t))
     go true e = rw (← eqb-true k t e, p k l, rest k, mine, has, eq-eqb k k refl, same) (here (bit base k) (f k))
       where
         here : (a b : Bool) → ((a || false) || (b && true)) ≡ (a || b)
@@ -64,26 +71,31 @@ pub record Walked (left out : ℕ) (waits fires : ℕ → Bool) (todo keep more 
   pub added : Passed out left todo fires more
 
 -- A turn takes member k out of `todo` and leaves `next`.
-pub one-walked : (todo k next : ℕ) → ((j : ℕ) → bit next j ≡ (bit todo j && not (eqb k j))) → k < 64 → bit todo k ≡ true → next < 2 ^ 64
+pub one-walked : (todo k next : ℕ) → ((j : ℕ) → bit next j ≡ (bit todo j && not (eqb k j))) → k < 64
+    → bit todo k ≡ true → next < 2 ^ 64
     → {left out : ℕ} {waits fires : ℕ → Bool} (keep more : ℕ) → Walked left out waits fires todo keep more
     → (after : ℕ) (x : Bool) → x ≡ waits k → ((j : ℕ) → bit after j ≡ (bit keep j || (x && eqb k j)))
     → (gained : ℕ) (y : Bool) → y ≡ fires k → ((j : ℕ) → bit gained j ≡ (bit more j || (y && eqb k j)))
     → Walked left out waits fires next after gained
-one-walked todo k next rest low mine small {left} {out} {waits} {fires} keep more w after x says adds gained y tells gains =
+one-walked todo k next rest low mine small {left} {out} {waits} {fires} keep more w after x says adds gained y tells
+    gains =
     record {
       small = small;
       inside = λ j e. w .inside j (and-left (bit todo j) (not (eqb k j)) (sym (rest j) ∙ e));
       kept = one-passed 0 left todo waits keep k after next x low mine (w .inside k mine) rest adds says (w .kept);
-      added = one-passed out left todo fires more k gained next y low mine (w .inside k mine) rest gains tells (w .added);
+      added =
+          one-passed out left todo fires more k gained next y low mine (w .inside k mine) rest gains tells (w .added);
     }
 
 module _ (able : ℕ) (m rows arcs : List ℕ) (w s : List (List ℕ)) (lower : ℕ) where
-  -- After k rounds: those of rank below k are decided, and who is decided meets the rule and has none of those left for a rival.
+  -- After k rounds: those of rank below k are decided, and who is decided meets the rule and has none of those left
+  -- for a rival.
   pub record Settled (k left out : ℕ) : Type 0 where
     pub ranks : Ranks arcs lower
     pub gone : (t : ℕ) → t < 64 → ranks .rank t < k → bit left t ≡ false
     pub opens : (t : ℕ) → t < 64 → bit left t ≡ true → (bit able t ≡ true) × (bit out t ≡ false)
-    pub clear : (t u : ℕ) → t < 64 → u < 64 → bit able t ≡ true → bit left t ≡ false → bit (rivals-of arcs t) u ≡ true → bit left u ≡ false
+    pub clear : (t u : ℕ) → t < 64 → u < 64 → bit able t ≡ true → bit left t ≡ false → bit (rivals-of arcs t) u ≡ true
+        → bit left u ≡ false
     pub meets : (t : ℕ) → t < 64 → bit left t ≡ false → bit out t ≡ (bit able t && keeps m rows arcs w s out t)
 
   -- At the start those with rivals are left. All other firable ones have fired: nobody takes before them.
@@ -97,8 +109,10 @@ module _ (able : ℕ) (m rows arcs : List ℕ) (w s : List (List ℕ)) (lower : 
     untaken : (t : ℕ) → t < 64 → bit lower t ≡ false → keeps m rows arcs w s out t ≡ true
     untaken t h n =
         spared m rows w s (low arcs t) (high arcs t) _ t
-        (same-set (bitAnd out (rivals-of arcs t)) 0 (lt-of-le-of-lt (and-le-l out (rivals-of arcs t)) small) (omega arith)
-        (λ u l. bit-and out (rivals-of arcs t) u ∙ rw (ranks .lower-is t h n u l, and-false (bit out u)) (sym (bit-zero u))))
+        (same-set (bitAnd out (rivals-of arcs t)) 0 (lt-of-le-of-lt (and-le-l out (rivals-of arcs t)) small)
+        (omega arith)
+        (λ u l. bit-and out (rivals-of arcs t) u
+        ∙ rw (ranks .lower-is t h n u l, and-false (bit out u)) (sym (bit-zero u))))
 
     pub at-start : Settled 0 (bitAnd able lower) out
     at-start =
@@ -106,8 +120,10 @@ module _ (able : ℕ) (m rows arcs : List ℕ) (w s : List (List ℕ)) (lower : 
           ranks = ranks;
           gone = λ t h l. absurd (not-suc-le-zero l);
           opens = λ t h e.
-              let both : (bit able t && bit lower t) ≡ true = sym (bit-and able lower t) ∙ e in
-              (and-left (bit able t) (bit lower t) both, first t ∙ rw (and-right (bit able t) (bit lower t) both) (and-false (bit able t)));
+              let both : (bit able t && bit lower t) ≡ true = sym (bit-and able lower t) ∙ e in (
+                and-left (bit able t) (bit lower t) both,
+                first t ∙ rw (and-right (bit able t) (bit lower t) both) (and-false (bit able t)),
+              );
           clear = λ t u h l e n a. not-both a (ranks .lower-is t h (open-top t e n) u l);
           meets = λ t h n. first t ∙ met t h n (bit able t) refl;
         }
@@ -128,7 +144,8 @@ module _ {able : ℕ} {m rows arcs : List ℕ} {w s : List (List ℕ)} {lower k 
     keep = keeps m rows arcs w s
 
     -- Whoever has none of those left for a rival does not wait.
-    free : (t : ℕ) → ((u : ℕ) → u < 64 → bit (rivals-of arcs t) u ≡ true → bit left u ≡ false) → waits-for arcs left t ≡ false
+    free : (t : ℕ) → ((u : ℕ) → u < 64 → bit (rivals-of arcs t) u ≡ true → bit left u ≡ false)
+        → waits-for arcs left t ≡ false
     free t none = none-intro 64 _ (λ u h. go u h (bit (rivals-of arcs t) u) refl)
       where
         go : (u : ℕ) → u < 64 → (b : Bool) → bit (rivals-of arcs t) u ≡ b → (b && bit left u) ≡ false
@@ -147,10 +164,12 @@ module _ {able : ℕ} {m rows arcs : List ℕ} {w s : List (List ℕ)} {lower k 
     out-same u h e = r .fires u h ∙ rw e (or-false (bit out u))
 
     -- So the fired rivals of t stay the same, where none of those left is a rival of t.
-    keeps-same : (t : ℕ) → ((u : ℕ) → u < 64 → bit (rivals-of arcs t) u ≡ true → bit left u ≡ false) → keep out t ≡ keep (x .out) t
+    keeps-same : (t : ℕ) → ((u : ℕ) → u < 64 → bit (rivals-of arcs t) u ≡ true → bit left u ≡ false)
+        → keep out t ≡ keep (x .out) t
     keeps-same t none =
         ap (λ (g : ℕ). pays m rows arcs w s g t)
-        (same-set (bitAnd out a) (bitAnd (x .out) a) (lt-of-le-of-lt (and-le-l out a) small) (lt-of-le-of-lt (and-le-l (x .out) a) small′)
+        (same-set (bitAnd out a) (bitAnd (x .out) a) (lt-of-le-of-lt (and-le-l out a) small)
+        (lt-of-le-of-lt (and-le-l (x .out) a) small′)
         (λ u h. bit-and out a u ∙ go u h (bit a u) refl ∙ sym (bit-and (x .out) a u)))
       where
         a : ℕ
@@ -179,7 +198,8 @@ module _ {able : ℕ} {m rows arcs : List ℕ} {w s : List (List ℕ)} {lower k 
           meets = λ t h n. met t h n (bit able t) refl (bit left t) refl;
         }
       where
-        opened : (t : ℕ) → t < 64 → (bit left t && waits-for arcs left t) ≡ true → (bit able t ≡ true) × (bit (x .out) t ≡ false)
+        opened : (t : ℕ) → t < 64 → (bit left t && waits-for arcs left t) ≡ true
+            → (bit able t ≡ true) × (bit (x .out) t ≡ false)
         opened t h e =
             let l : bit left t ≡ true = and-left (bit left t) (waits-for arcs left t) e in
             let q : waits-for arcs left t ≡ true = and-right (bit left t) (waits-for arcs left t) e in

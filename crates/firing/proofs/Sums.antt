@@ -1,40 +1,14 @@
--- What the members of a set weigh, with one of them taken out.
-use mathlib.Core.Bool.{Bool, true, false, cond, not, _&&_}
-use mathlib.Core.Path.{_≡_, refl, sym, ap, _∙_}
-use Prim.Native.Nat.{ℕ, _+_, _≤_, _<_}
-use native.Mathlib.Nat.{add-zero, zero-add}
+-- What the members of a set weigh.
+use mathlib.Core.Bool.{Bool, true, false, cond, _&&_}
+use mathlib.Core.Path.{_≡_, ap, _∙_}
+use Prim.Native.Nat.{ℕ, _≤_, _<_}
 use native.Mathlib.Omega.{arith}
 use lib.Bits.{bitAnd}
-use lib.Dec.{eqb}
-use borrow.Author.Tests.{eqb-true, eq-eqb, ne-eqb}
 use Rattle.meaning.specs.Below.{sum, first}
 use Rattle.meaning.specs.Bytes.{bit}
-use Rattle.meaning.proofs.Bool.{not-both}
-use Rattle.meaning.proofs.Below.{sum-same, sum-add, sum-zero, sum-mono, sum-part, first-passes, first-before}
-use Rattle.meaning.proofs.Sound.{sum-one}
+use Rattle.meaning.proofs.Below.{sum-same, sum-zero, sum-mono, sum-part, first-passes, first-before}
 use Rattle.sets.proofs.Bits.{bit-and}
-
--- The sum of f over the members of a set.
-abbrev pub over : ℕ → (ℕ → ℕ) → ℕ
-over s f = sum 64 (λ t. cond (bit s t) (f t) 0)
-
--- A member, and the set without it.
-module _ (f : ℕ → ℕ) (left rest k : ℕ) (low : k < 64) (has : bit left k ≡ true) (less : (j : ℕ) → bit rest j ≡ (bit left j && not (eqb k j))) where
-  pub over-less : over left f ≡ f k + over rest f
-  over-less =
-      sum-same 64 (λ t. cond (bit left t) (f t) 0) (λ t. cond (eqb k t) (f t) 0 + cond (bit rest t) (f t) 0)
-      (λ t h. rw (less t) (part t (eqb k t) (bit left t) refl refl))
-      ∙ sum-add 64 (λ t. cond (eqb k t) (f t) 0) (λ t. cond (bit rest t) (f t) 0)
-      ∙ ap (λ (x : ℕ). x + over rest f) lone
-    where
-      part : (t : ℕ) (b c : Bool) → eqb k t ≡ b → bit left t ≡ c → cond c (f t) 0 ≡ cond b (f t) 0 + cond (c && not b) (f t) 0
-      part t true true e d = sym (add-zero (f t))
-      part t true false e d = not-both (ap (bit left) (sym (eqb-true k t e)) ∙ has) d
-      part t false true e d = sym (zero-add (f t))
-      part t false false e d = refl
-
-      lone : sum 64 (λ t. cond (eqb k t) (f t) 0) ≡ f k
-      lone = sum-one 64 (λ t. cond (eqb k t) (f t) 0) k low (λ t h n. rw (ne-eqb k t (λ e. n (sym e)))) ∙ rw (eq-eqb k k refl)
+use Rattle.sets.proofs.Members.{over}
 
 -- Where the first member is 64 or more there is none.
 pub over-none : (s t : ℕ) (f : ℕ → ℕ) → t ≡ first 64 (bit s) → 64 ≤ t → over s f ≡ 0
@@ -59,4 +33,5 @@ count-low s = sum-mono 64 (λ t. cond (bit s t) 1 0) (λ t. 1) (λ k h. at-most 
 -- Who is in both sets.
 pub over-both : (s a : ℕ) (f : ℕ → ℕ) → over (bitAnd s a) f ≡ sum 64 (λ t. cond (bit s t && bit a t) (f t) 0)
 over-both s a f =
-    sum-same 64 (λ t. cond (bit (bitAnd s a) t) (f t) 0) (λ t. cond (bit s t && bit a t) (f t) 0) (λ t h. rw (bit-and s a t))
+    sum-same 64 (λ t. cond (bit (bitAnd s a) t) (f t) 0) (λ t. cond (bit s t && bit a t) (f t) 0)
+    (λ t h. rw (bit-and s a t))

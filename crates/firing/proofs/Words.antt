@@ -1,4 +1,5 @@
--- A walk over the places of a word, the lowest first: whether some place passes is to be found in the rest, where the places before did not.
+-- A walk over the places of a word, the lowest first: whether some place passes is to be found in the rest, where the
+-- places before did not.
 use mathlib.Core.Bool.{Bool, true, false, not, _&&_, and-true, and-false}
 use mathlib.Core.Path.{_≡_, refl, sym}
 use Prim.Native.Nat.{ℕ, _<_}

@@ -1,26 +1,21 @@
 -- Definition 6 read off the rows: a set fires if each firable transition is in it exactly when its rivals in the set
 -- leave it enabled.
-use mathlib.Core.Bool.{Bool, true, false, cond, not, _&&_, _||_}
+use mathlib.Core.Bool.{Bool, true, false, not, _&&_, _||_}
 use mathlib.Core.List.{List}
 use mathlib.Core.Path.{_≡_}
 use Prim.Native.Nat.{ℕ, _+_, _*_, _-_, _≤_, _<_}
 use lib.Bits.{bitAnd}
-use lib.Dec.{leb, ltb, eqb}
+use lib.Dec.{eqb}
 use lib.ListN.{length, getD}
-use Rattle.meaning.specs.Below.{some, sum}
+use Rattle.meaning.specs.Below.{some}
 use Rattle.meaning.specs.Bytes.{bit}
-use Rattle.rows.specs.Rows.{takers, cell}
+use Rattle.rows.specs.Rows.{takers, cell, stops, taken-at}
 use Rattle.arcs.specs.Arcs.{low, high, rivals-of}
 use Rattle.firing.specs.declared.Round.{Round}
 
--- What the members of the set g take from place p.
-abbrev pub taken-at : ℕ → List ℕ → List (List ℕ) → ℕ → ℕ
-taken-at g rows w p = sum 64 (λ t. cond (bit g t && bit (takers rows p) t) (cell w p t) 0)
-
--- With so many tokens the arc from place p stops transition t: an inhibitor arc (sort 2) that finds its weight, any
--- other that does not.
+-- With so many tokens the arc from place p stops transition t.
 abbrev pub stops-with : ℕ → List (List ℕ) → List (List ℕ) → ℕ → ℕ → Bool
-stops-with tokens w s t p = cond (eqb (cell s p t) 2) (leb (cell w p t) tokens) (ltb tokens (cell w p t))
+stops-with tokens w s t p = stops (cell w p t) (cell s p t) tokens
 
 -- Some members of the set g take from place p, and with what they leave there the arc from p stops transition t.
 abbrev pub stopped-at : List ℕ → List ℕ → List (List ℕ) → List (List ℕ) → ℕ → ℕ → ℕ → Bool

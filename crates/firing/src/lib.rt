@@ -7,10 +7,10 @@ use rows::TAKERS;
 ghost use mathlib.Core.Bool.{cond};
 ghost use mathlib.Core.Path.{_≡_};
 ghost use Prim.Native.Nat.{_-_, _≤_, _<_};
-ghost use lib.Dec.{leb, ltb, eqb};
 ghost use lib.ListN.{getD};
 ghost use Rattle.meaning.specs.Below.{sum};
 ghost use Rattle.meaning.specs.Bytes.{bit};
+ghost use Rattle.rows.specs.Rows.{stops};
 ghost use Rattle.arcs.specs.Arcs.{low, high};
 ghost use Rattle.firing.specs.Fired.{stopped-among, left-enabled, There, Housed, Ranks, Decided, Fires};
 
@@ -18,13 +18,6 @@ ghost use Rattle.firing.specs.Fired.{stopped-among, left-enabled, There,
 struct Round {
     left: u64,
     out: u64,
-}
-
-// A weight as a number of tokens.
-fn wide(x: u16) -> u32
-    ensures { λ r. ⌜ (r ≡ x) × (r ≤ 65535) ⌝ }
-{
-    x as u32
 }
 
 // The weights in a place's row of the members of a set, added up.
@@ -35,7 +28,7 @@ fn at_place(set: u64, row: &[u16; 64]) -> u32
     let mut t = sets::lowest(left);
     let mut taken: u32 = 0;
     while t < 64 {
-        taken += wide(row[t]);
+        taken += numbers::wide(row[t]);
         left = sets::rest(left);
         t = sets::lowest(left);
     }
@@ -51,7 +44,7 @@ fn rest_of(tokens: u32, taken: u32) -> u32
 
 // Does an arc of this weight and sort stop its transition, with so many tokens on its place?
 fn stops(tokens: u32, weight: u16, sort: u8) -> bool
-    ensures { λ r. ⌜ r ≡ cond (eqb sort 2) (leb weight tokens) (ltb tokens weight) ⌝ }
+    ensures { λ r. ⌜ r ≡ stops weight sort tokens ⌝ }
 {
     let wanted = weight as u32;
     if sort == 2 {

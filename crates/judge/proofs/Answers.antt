@@ -1,10 +1,10 @@
 -- What each stage finds is what the meaning's check finds: the rows say what the table says, so the first of the one is
 -- the first of the other.
-use mathlib.Core.Bool.{Bool, true, false, cond, not, _&&_}
-use mathlib.Core.List.{List, []}
-use mathlib.Core.Logic.{_≢_, ⊎-elim}
+use mathlib.Core.Bool.{Bool, true, false, cond, not}
+use mathlib.Core.List.{List}
+use mathlib.Core.Logic.{_≢_}
 use mathlib.Core.Path.{_≡_, refl, sym, ap, _∙_}
-use Prim.Native.Nat.{ℕ, zero, suc, _+_, _*_, _%_, _≤_, _<_}
+use Prim.Native.Nat.{ℕ, zero, suc, _*_, _%_, _≤_, _<_}
 use native.Mathlib.Nat.{lt-of-not-le}
 use native.Mathlib.Omega.{arith}
 use lib.Dec.{eqb, ltb}
@@ -13,13 +13,12 @@ use borrow.Author.Tests.{lt-ltb, le-ltb, ltb-true, ltb-false, eqb-true, eqb-fals
 use Rattle.meaning.specs.Below.{some, first}
 use Rattle.meaning.specs.Bytes.{bit}
 use Rattle.meaning.specs.Table.{Table, table, is}
-use Rattle.meaning.specs.Answer.{Check, accepted, refused}
-use Rattle.meaning.specs.Defined.{bad-length, fault, faulty, unknown, empty, isolated, check}
-use Rattle.meaning.proofs.Bool.{and-left, and-right, and-true, same-test, not-both, or-false-right}
+use Rattle.meaning.specs.Answer.{refused}
+use Rattle.meaning.specs.Defined.{bad-length, fault, faulty, unknown, empty, check}
+use Rattle.meaning.proofs.Bool.{and-left, and-true, same-test, not-both, or-false-right}
 use Rattle.meaning.proofs.Reflect.{not-true-false}
 use Rattle.meaning.proofs.Below.{some-intro, some-elim, first-le, first-passes, first-before, first-same, first-none}
-use Rattle.meaning.proofs.Shows.{Shows}
-use Rattle.meaning.proofs.Same.{of-kind, shown-place, shown-transition}
+use Rattle.meaning.proofs.Same.{of-kind, shown-transition}
 use Rattle.meaning.proofs.Faults.{faultless}
 use Rattle.rows.specs.declared.Declared.{Declared}
 use Rattle.rows.specs.Extent.{Roomy}
@@ -32,7 +31,7 @@ use Rattle.scan.specs.declared.Pass.{Pass}
 use Rattle.scan.specs.Scan.{Scanned}
 use Rattle.judge.specs.declared.Verdict.{Verdict}
 use Rattle.judge.specs.Judged.{unknown-first, none-of, Judge-asks, Judges}
-use Rattle.judge.proofs.Stages.{from-5, from-6, from-7, from-8, from-9, Left, past-1, stops, passes, accepts}
+use Rattle.judge.proofs.Stages.{from-5, from-6, from-7, from-8, Left, past-1, stops, passes}
 
 -- A search that comes to its end.
 pub reached : (n : ℕ) (p : ℕ → Bool) {k : ℕ} → k ≡ first n p → n ≤ k → first n p ≡ n

@@ -1,5 +1,5 @@
 -- Answers 8 and 9 by the closed rows; and where neither is given the rows hold the net of an accepted table.
-use mathlib.Core.Bool.{Bool, true, false}
+use mathlib.Core.Bool.{false}
 use mathlib.Core.List.{List, []}
 use mathlib.Core.Path.{_≡_, refl, sym, ap, _∙_}
 use Prim.Native.Nat.{ℕ, _*_, _≤_, _<_}
@@ -9,7 +9,7 @@ use Rattle.meaning.specs.Below.{first}
 use Rattle.meaning.specs.Bytes.{bit}
 use Rattle.meaning.specs.Table.{table}
 use Rattle.meaning.specs.Answer.{accepted, refused}
-use Rattle.meaning.specs.Defined.{twice, unknown, clashes, same, check}
+use Rattle.meaning.specs.Defined.{twice, unknown, in-unsettled, same, check}
 use Rattle.meaning.proofs.Below.{none-elim, first-none}
 use Rattle.meaning.proofs.Same.{of-kind, shown-priority}
 use Rattle.meaning.proofs.Faults.{faultless}
@@ -17,7 +17,7 @@ use Rattle.rows.specs.declared.Declared.{Declared}
 use Rattle.rows.specs.Rows.{below, transitions-below}
 use Rattle.rows.specs.Filed.{Closed, Filed, Net-of}
 use Rattle.closure.specs.Closure.{Low-pairs, Closes}
-use Rattle.closure.proofs.Priority.{Low-numbers, low-from, closed-is, rowed-kept, circle-same}
+use Rattle.closure.proofs.Priority.{Low-numbers, low-from, closed-is, filed-kept, circle-same}
 use Rattle.conflict.specs.Pairs.{Takerless-from, Conflicts}
 use Rattle.conflict.specs.Settled.{unsettled-by, Least-asks}
 use Rattle.conflict.proofs.Whole as conflict
@@ -46,16 +46,7 @@ module _ {bs : List ℕ} {n : ℕ} {known : Declared} {rows : List ℕ} {w s : L
     closed = closed-is (f .paired) priorities closes
 
     filed : Filed (table bs) (table bs .records) rows′ w s heads posts times known
-    filed =
-        record {
-          rowed = rowed-kept (f .filed .rowed) closes;
-          weights = f .filed .weights;
-          sorts = f .filed .sorts;
-          posted = f .filed .posted;
-          descends = f .filed .descends;
-          timed = f .filed .timed;
-          known-are = f .filed .known-are;
-        }
+    filed = filed-kept (f .filed) closes
 
     -- Answer 8: the first transition above itself by the closed rows.
     module _ (left : Left bs (from-8 bs)) {k : ℕ} (search : k ≡ first 64 (λ t. bit (below rows′ t) t)) where
@@ -94,7 +85,7 @@ module _ {bs : List ℕ} {n : ℕ} {known : Declared} {rows : List ℕ} {w s : L
         -- Nothing is found: the table is accepted.
         pub accepted-is : 4096 ≤ q → accepted 0 ≡ check bs
         accepted-is h =
-            let none = first-none 64 (clashes (table bs)) (no-pair all conflicts (reached 4096 _ search h)) in
+            let none = first-none 64 (in-unsettled (table bs)) (no-pair all conflicts (reached 4096 _ search h)) in
             accepts bs (passes bs _ [] left refl (omega (arith, none)))
 
         pub net-of : 4096 ≤ q → Net-of bs n rows′ w s heads posts times known

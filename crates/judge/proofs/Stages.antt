@@ -11,7 +11,7 @@ use borrow.Author.Tests.{lt-ltb, le-ltb, eq-eqb, ne-eqb}
 use Rattle.meaning.specs.Below.{first}
 use Rattle.meaning.specs.Table.{table}
 use Rattle.meaning.specs.Answer.{Answer, accepted, refused, Check, check-of, decide}
-use Rattle.meaning.specs.Defined.{bad-length, fault, faulty, unknown, empty, isolated, circle, unsettled, clashes}
+use Rattle.meaning.specs.Defined.{bad-length, fault, faulty, unknown, empty, isolated, circle, unsettled, in-unsettled}
 use Rattle.meaning.specs.Defined.{table-checks, check}
 use Rattle.meaning.proofs.Below.{first-le}
 
@@ -42,7 +42,7 @@ length-right bs e l = rw (eq-eqb (length bs % 8) 0 e, le-ltb 8192 (length bs) l)
 -- THE CHECKS OF A TABLE, FROM EACH STAGE ON
 
 abbrev pub from-9 : List ℕ → List Check
-from-9 bs = check-of 64 (clashes (table bs)) (λ i. refused 9 (64 * i + first 64 (unsettled (table bs) i))) ∷ []
+from-9 bs = check-of 64 (in-unsettled (table bs)) (λ i. refused 9 (64 * i + first 64 (unsettled (table bs) i))) ∷ []
 
 abbrev pub from-8 : List ℕ → List Check
 from-8 bs = check-of 64 (circle (table bs)) (λ t. refused 8 t) ∷ from-9 bs

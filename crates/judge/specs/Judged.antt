@@ -7,13 +7,13 @@ use lib.Dec.{eqb}
 use lib.ListN.{length}
 use Rattle.meaning.specs.Below.{some, first}
 use Rattle.meaning.specs.Bytes.{bit}
-use Rattle.meaning.specs.Table.{Table, table}
+use Rattle.meaning.specs.Table.{Table}
 use Rattle.meaning.specs.Answer.{refused}
 use Rattle.meaning.specs.Defined.{check}
 use Rattle.rows.specs.declared.Declared.{Declared}
 use Rattle.rows.specs.Extent.{Roomy}
 use Rattle.rows.specs.Rows.{has}
-use Rattle.rows.specs.Filed.{Sizes, Net-of}
+use Rattle.rows.specs.Filed.{Net-of}
 use Rattle.named.specs.Named.{unknown-in, unknown-at}
 use Rattle.scan.specs.Scan.{Blank}
 use Rattle.judge.specs.declared.Verdict.{Verdict}

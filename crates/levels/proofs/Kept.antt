@@ -1,4 +1,5 @@
--- What is kept of one place is written at its three rows, and its level at the first two of its own: the rows of the other places stay.
+-- What is kept of one place is written at its three rows, and its level at the first two of its own: the rows of the
+-- other places stay.
 use mathlib.Core.List.{List}
 use mathlib.Core.Path.{_≡_, _∙_}
 use Prim.Native.Nat.{ℕ, _+_, _<_}
@@ -29,7 +30,8 @@ module _ (kept : List ℕ) (p held active lacks : ℕ) (place : p < 128) (size :
   three-lacks = getD-set-same (set (set kept p held) (128 + p) active) (256 + p) lacks 0 (simp length-set (omega arith))
 
   -- Any other row is as it was.
-  pub three-other : (k : ℕ) → ¬ (k ≡ p) → ¬ (k ≡ 128 + p) → ¬ (k ≡ 256 + p) → getD (three kept p held active lacks) k 0 ≡ getD kept k 0
+  pub three-other : (k : ℕ) → ¬ (k ≡ p) → ¬ (k ≡ 128 + p) → ¬ (k ≡ 256 + p)
+      → getD (three kept p held active lacks) k 0 ≡ getD kept k 0
   three-other k a b d =
       getD-set-other (set (set kept p held) (128 + p) active) (256 + p) k lacks 0 d
       ∙ getD-set-other (set kept p held) (128 + p) k active 0 b
@@ -44,7 +46,9 @@ module _ (levels : List ℕ) (p from upto : ℕ) (place : p < 128) (size : lengt
   two-long = simp length-set size
 
   pub two-from : getD (two levels p from upto) p 0 ≡ from
-  two-from = getD-set-other (set levels p from) (128 + p) p upto 0 (λ e. omega arith) ∙ getD-set-same levels p from 0 (omega arith)
+  two-from =
+      getD-set-other (set levels p from) (128 + p) p upto 0 (λ e. omega arith)
+      ∙ getD-set-same levels p from 0 (omega arith)
 
   pub two-upto : getD (two levels p from upto) (128 + p) 0 ≡ upto
   two-upto = getD-set-same (set levels p from) (128 + p) upto 0 (simp length-set (omega arith))

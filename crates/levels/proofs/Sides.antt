@@ -1,26 +1,23 @@
--- On a level every arc is reached or missed as it is with the tokens at hand, so the same are held back and the same lack tokens.
-use mathlib.Core.Bool.{Bool, true, false, not, _&&_}
+-- On a level every arc is reached or missed as it is with the tokens at hand, so the same are held back and the same
+-- lack tokens.
+use mathlib.Core.Bool.{Bool, true, false}
 use mathlib.Core.Path.{_≡_, refl, sym}
 use Prim.Native.Nat.{ℕ, _≤_, _<_}
 use native.Mathlib.Omega.{arith}
-use lib.Dec.{leb, ltb}
-use borrow.Author.Tests.{ltb-true, ltb-false, lt-ltb, le-ltb, lt-leb, le-leb}
-use Rattle.levels.specs.Levels.{stops, lacks}
+use lib.Dec.{ltb}
+use borrow.Author.Tests.{ltb-true, ltb-false, lt-ltb, le-ltb}
+use Rattle.rows.specs.Rows.{stops}
+use Rattle.rows.proofs.Arcs.{at-most}
+use Rattle.levels.specs.Levels.{lacks}
 
--- A level from one number to the other does not pass the weight: it begins at a weight that the tokens reach, and ends below one that they miss.
+-- A level from one number to the other does not pass the weight: it begins at a weight that the tokens reach, and ends
+-- below one that they miss.
 pub record Keeps-side (tokens weight from upto : ℕ) : Type 0 where
   pub reached : weight ≤ tokens → weight ≤ from
   pub missed : tokens < weight → upto < weight
 
--- At most is not above.
-at-most : (a b : ℕ) → leb a b ≡ not (ltb b a)
-at-most a b = go (ltb b a) refl
-  where
-    go : (x : Bool) → ltb b a ≡ x → leb a b ≡ not x
-    go true e = lt-leb a b (ltb-true b a e)
-    go false e = le-leb a b (ltb-false b a e)
-
-module _ {tokens weight from upto : ℕ} (side : Keeps-side tokens weight from upto) (k : ℕ) (low : from ≤ k) (high : k ≤ upto) where
+module _ {tokens weight from upto : ℕ} (side : Keeps-side tokens weight from upto) (k : ℕ) (low : from ≤ k)
+    (high : k ≤ upto) where
   same-side : ltb tokens weight ≡ ltb k weight
   same-side = go (ltb tokens weight) refl
     where
@@ -33,8 +30,3 @@ module _ {tokens weight from upto : ℕ} (side : Keeps-side tokens weight from u
 
   pub same-lacks : (sort : ℕ) → lacks weight sort tokens ≡ lacks weight sort k
   same-lacks sort = rw same-side
-
--- What a test says of the arcs at hand it says with any other number of tokens that it takes for the same.
-pub on-level : (a x y : Bool) → (a ≡ true → x ≡ y) → (a && x) ≡ (a && y)
-on-level true x y e = e refl
-on-level false x y e = refl

@@ -4,22 +4,17 @@ use mathlib.Core.Bool.{Bool, cond, not, _&&_, _||_}
 use mathlib.Core.List.{List}
 use mathlib.Core.Path.{_≡_}
 use Prim.Native.Nat.{ℕ, _+_, _*_, _≤_, _<_}
-use lib.Dec.{leb, ltb, eqb}
+use lib.Dec.{ltb, eqb}
 use lib.ListN.{length, getD}
 use Rattle.meaning.specs.Bytes.{bit}
-use Rattle.rows.specs.Rows.{inputs, actions, cell}
+use Rattle.rows.specs.Rows.{inputs, actions, cell, stops}
 use Rattle.levels.specs.declared.Level.{Level}
 
--- With k tokens on a place the arc of this weight and sort stops its transition: an inhibitor arc (sort 2) that finds
--- its weight, any other that does not.
-abbrev pub stops : ℕ → ℕ → ℕ → Bool
-stops weight sort k = cond (eqb sort 2) (leb weight k) (ltb k weight)
-
--- It is a basic or test arc that finds less than its weight.
+-- With k tokens on a place the arc of this weight and sort is a basic or test arc that finds less than its weight.
 abbrev pub lacks : ℕ → ℕ → ℕ → Bool
 lacks weight sort k = not (eqb sort 2) && ltb k weight
 
--- The same of transition t, by a place's rows of weights and sorts.
+-- That, and whether the arc stops its transition, by a place's rows of weights and sorts.
 abbrev pub stops-of : List ℕ → List ℕ → ℕ → ℕ → Bool
 stops-of w s k t = stops (getD w t 0) (getD s t 0) k
 
@@ -29,8 +24,8 @@ lacks-of w s k t = lacks (getD w t 0) (getD s t 0) k
 -- Level y is level x of so many tokens, and it also does not pass the weight of an arc to t, which is held back or
 -- lacks tokens as the arc says.
 pub record Narrowed (tokens t weight sort : ℕ) (x y : Level) : Type 0 where
-  pub held-is : (j : ℕ) → bit (y .held) j ≡ (bit (x .held) j || (eqb t j && stops weight sort tokens))
-  pub lacks-is : (j : ℕ) → bit (y .lacks) j ≡ (bit (x .lacks) j || (eqb t j && lacks weight sort tokens))
+  pub held-is : (j : ℕ) → bit (y .held) j ≡ (bit (x .held) j || (stops weight sort tokens && eqb t j))
+  pub lacks-is : (j : ℕ) → bit (y .lacks) j ≡ (bit (x .lacks) j || (lacks weight sort tokens && eqb t j))
   pub from-up : x .from ≤ y .from
   pub upto-down : y .upto ≤ x .upto
   pub still-from : x .from ≤ tokens → y .from ≤ tokens

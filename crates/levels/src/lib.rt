@@ -3,7 +3,7 @@
 // place leaves its level.
 use rows::ACTIONS;
 use rows::INPUTS;
-ghost use mathlib.Core.Bool.{not, _&&_};
+ghost use mathlib.Core.Bool.{_&&_};
 ghost use mathlib.Core.Path.{_≡_};
 ghost use Prim.Native.Nat.{ℕ, _+_, _*_, _≤_, _<_};
 ghost use lib.ListN.{getD};
@@ -23,13 +23,6 @@ pub const UPTO: usize = 128;
 
 pub const LEFT: usize = 256;
 
-// A weight as a number of tokens.
-pub fn wide(weight: u16) -> u32
-    ensures { λ r. ⌜ (r ≡ weight) × (r ≤ 65535) ⌝ }
-{
-    weight as u32
-}
-
 // Of those with these arcs from a place, who has a basic or test arc whose weight so many tokens do not reach.
 pub fn lacking(tokens: u32, arcs: u64, w: &[u16; 64], s: &[u8; 64]) -> u64
     ensures { λ r. ⌜ ((t : ℕ) → bit r t ≡ (bit arcs t && lacks-of (now (w .entry)) (now (s .entry)) tokens t)) ⌝ }
@@ -39,7 +32,7 @@ pub fn lacking(tokens: u32, arcs: u64, w: &[u16; 64], s: &[u8; 64]) -> u64
     while left != 0 {
         let t = sets::lowest(left);
         if s[t] != 2 {
-            if tokens < wide(w[t]) {
+            if tokens < numbers::wide(w[t]) {
                 lacks = sets::union(lacks, sets::single(t));
             }
         }

@@ -3,14 +3,14 @@ use mathlib.Core.Bool.{Bool, true, false, cond}
 use mathlib.Core.List.{List}
 use mathlib.Core.Logic.{⊎-elim}
 use mathlib.Core.Path.{_≡_, refl, sym, ap}
-use Prim.Native.Nat.{ℕ, zero, suc, _+_, _*_, _≤_, _<_}
+use Prim.Native.Nat.{ℕ, zero, suc, _+_, _≤_, _<_}
 use native.Mathlib.Nat.{eq-or-lt-of-le}
 use native.Mathlib.Omega.{arith}
-use lib.Dec.{ltb, eqb}
+use lib.Dec.{eqb}
 use lib.ListN.{length, getD, set}
 use lib.Seq.{getD-set-same, getD-set-other}
-use borrow.Author.Tests.{eqb-true, eqb-false, eq-eqb, ne-eqb, ltb-true, lt-ltb}
-use Rattle.marking.specs.Moves.{place-of, weight-of, next-of, given-upto, given, Leads, Chains}
+use borrow.Author.Tests.{eqb-true, eqb-false, eq-eqb, ne-eqb}
+use Rattle.marking.specs.Moves.{place-of, weight-of, next-of, given-upto, given}
 
 -- Going down from any number that is not below the link finds the same chain.
 found : (n : ℕ) (posts : List ℕ) (at p : ℕ) → at ≤ n → given-upto n posts at p ≡ given posts at p
@@ -35,35 +35,26 @@ pub given-arc : (posts : List ℕ) (at k p : ℕ) → at ≡ suc k → next-of p
     → given posts at p ≡ cond (eqb (place-of posts k) p) (weight-of posts k) 0 + given posts (next-of posts k) p
 unfolding given-upto
 given-arc posts at k p e h =
-    rw (e, eq-eqb (suc k) (suc k) refl) (ap (λ (x : ℕ). cond (eqb (place-of posts k) p) (weight-of posts k) 0 + x) (found k posts (next-of posts k) p h))
+    rw (e, eq-eqb (suc k) (suc k) refl) (ap (λ (x : ℕ). cond (eqb (place-of posts k) p) (weight-of posts k) 0 + x)
+    (found k posts (next-of posts k) p h))
 
 -- One more arc is put: what is put and what is still to be put at each place stays the same.
-pub one-given : (posts put : List ℕ) (at k : ℕ) (weight : ℕ) → at ≡ suc k → next-of posts k ≤ k → place-of posts k < length put → weight ≡ weight-of posts k → (p : ℕ)
-    → getD (set put (place-of posts k) (getD put (place-of posts k) 0 + weight)) p 0 + given posts (next-of posts k) p ≡ getD put p 0 + given posts at p
+pub one-given : (posts put : List ℕ) (at k : ℕ) (weight : ℕ) → at ≡ suc k → next-of posts k ≤ k
+    → place-of posts k < length put → weight ≡ weight-of posts k → (p : ℕ)
+    → getD (set put (place-of posts k) (getD put (place-of posts k) 0 + weight)) p 0 + given posts (next-of posts k) p
+    ≡ getD put p 0 + given posts at p
 one-given posts put at k weight e down there is p = go (eqb (place-of posts k) p) refl
   where
     go : (b : Bool) → eqb (place-of posts k) p ≡ b
-        → getD (set put (place-of posts k) (getD put (place-of posts k) 0 + weight)) p 0 + given posts (next-of posts k) p ≡ getD put p 0 + given posts at p
+        → getD (set put (place-of posts k) (getD put (place-of posts k) 0 + weight)) p 0 + given posts
+        (next-of posts k) p ≡ getD put p 0 + given posts at p
     go true q =
         let here = eqb-true (place-of posts k) p q in
-        let now : getD (set put (place-of posts k) (getD put (place-of posts k) 0 + weight)) p 0 ≡ getD put p 0 + weight =
+        let now : getD (set put (place-of posts k) (getD put (place-of posts k) 0 + weight)) p 0
+        ≡ getD put p 0 + weight =
         rw (← here) (getD-set-same put (place-of posts k) _ 0 there) in
         omega (arith, now, is, rw q at (given-arc posts at k p e down))
     go false q =
         let now : getD (set put (place-of posts k) (getD put (place-of posts k) 0 + weight)) p 0 ≡ getD put p 0 =
         getD-set-other put (place-of posts k) p _ 0 (λ z. eqb-false (place-of posts k) p q (sym z)) in
         omega (arith, now, rw q at (given-arc posts at k p e down))
-
--- Where every record goes down and has one of the 128 places, the records stand in chains, and each link up to their number leads to one.
-pub chains-below : {posts : List ℕ} (records : ℕ) → 3 * records ≤ length posts → ((k : ℕ) → place-of posts k < 128) → ((k : ℕ) → next-of posts k ≤ k)
-    → (chains : Chains posts) × ((at : ℕ) → at ≤ records → Leads (chains .arc) at)
-chains-below records there place down = (
-  record {
-    arc = λ k. ltb k records;
-    there = λ k e. omega (arith, ltb-true k records e);
-    place = λ k e. place k;
-    down = λ k e. down k;
-    goes-on = λ k e j q. lt-ltb j records (omega (arith, ltb-true k records e, down k, q));
-  },
-  λ at h j q. lt-ltb j records (omega (arith, h, q)),
-)

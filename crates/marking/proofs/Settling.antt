@@ -1,9 +1,10 @@
--- The sweep gives each place its new tokens, the tending brings what is kept of it to them. A place from which something is taken starves those who lack
--- tokens with its rest: on the level it had, those who lacked them before; below it, whom the tending tells.
+-- The sweep gives each place its new tokens, the tending brings what is kept of it to them. A place from which
+-- something is taken starves those who lack tokens with its rest: on the level it had, those who lacked them before;
+-- below it, whom the tending tells.
 use mathlib.Core.Bool.{Bool, true, false, not, _&&_, _||_, or-false}
 use mathlib.Core.List.{List}
 use mathlib.Core.Path.{_≡_, refl, sym, ap, ap₂, _∙_}
-use Prim.Native.Nat.{ℕ, zero, suc, _+_, _-_, _≤_, _<_}
+use Prim.Native.Nat.{ℕ, _+_, _≤_, _<_}
 use native.Mathlib.Omega.{arith}
 use lib.Dec.{ltb, eqb}
 use lib.ListN.{getD}
@@ -12,23 +13,12 @@ use Rattle.meaning.specs.Below.{some, first}
 use Rattle.meaning.specs.Bytes.{bit}
 use Rattle.meaning.proofs.Bool.{and-left, and-right, and-true as both, same-test}
 use Rattle.meaning.proofs.Below.{some-intro, some-elim, some-same, first-none}
+use Rattle.sets.proofs.Some.{some-or}
 use Rattle.rows.specs.Rows.{inputs, cell}
 use Rattle.levels.specs.Levels.{lacks, Levels, On-level}
 use Rattle.marking.specs.Moves.{lacking-at}
 use Rattle.marking.specs.Sweep.{rest-at, new-at, fallen, Sweep-asks, Swept, Tend-asks, Tended}
 use Rattle.marking.specs.Settle.{Settle-asks}
-
--- Some number passes one test or some passes the other: some number passes one of them.
-some-or : (n : ℕ) (p q : ℕ → Bool) → (some n p || some n q) ≡ some n (λ k. p k || q k)
-unfolding some
-some-or zero p q = refl
-some-or (suc n) p q = cross (some n p) (p n) (some n q) (q n) ∙ rw (some-or n p q)
-  where
-    cross : (a b c d : Bool) → (a || b || (c || d)) ≡ (a || c || (b || d))
-    cross true b c d = refl
-    cross false true true d = refl
-    cross false true false d = refl
-    cross false false c d = refl
 
 -- Some number below n passes: some number below m is below n and passes.
 some-below : (n m : ℕ) (f : ℕ → Bool) → n ≤ m → some n f ≡ some m (λ p. ltb p n && f p)
@@ -39,14 +29,16 @@ some-below n m f h =
     some-intro m (λ p. ltb p n && f p) (w .0) (omega (arith, w .1)) (both (lt-ltb (w .0) n (w .1)) (w .2)))
     (λ e.
     let w = some-elim m (λ p. ltb p n && f p) e in
-    some-intro n f (w .0) (ltb-true (w .0) n (and-left (ltb (w .0) n) (f (w .0)) (w .2))) (and-right (ltb (w .0) n) (f (w .0)) (w .2)))
+    some-intro n f (w .0) (ltb-true (w .0) n (and-left (ltb (w .0) n) (f (w .0)) (w .2)))
+    (and-right (ltb (w .0) n) (f (w .0)) (w .2)))
 
 -- Transition t has a basic or test arc from place p, and k tokens do not suffice for it.
 abbrev short : List ℕ → List (List ℕ) → List (List ℕ) → ℕ → ℕ → ℕ → Bool
 short rows w s t p k = bit (inputs rows p) t && lacks (cell w p t) (cell s p t) k
 
 -- Whoever lacks tokens with more lacks them with less.
-fewer : (a b : Bool) (k j weight : ℕ) → k ≤ j → ((a && (b && ltb j weight)) || (a && (b && ltb k weight))) ≡ (a && (b && ltb k weight))
+fewer : (a b : Bool) (k j weight : ℕ) → k ≤ j
+    → ((a && (b && ltb j weight)) || (a && (b && ltb k weight))) ≡ (a && (b && ltb k weight))
 fewer true true k j weight less = go (ltb j weight) refl
   where
     go : (c : Bool) → ltb j weight ≡ c → (c || ltb k weight) ≡ ltb k weight
@@ -121,12 +113,20 @@ module _ {n lack : ℕ} {rows : List ℕ} {w s : List (List ℕ)} {tokens kept l
           levels-size = swept .levels-size;
           put-in = λ p h. omega (arith, new-here p h);
           tokens-low = λ p h. omega (arith, new-here p h, asks .tokens-low p (place p h), asks .put-low p (place p h));
-          spans = λ p h. rw (swept .same-levels p (omega arith), swept .same-levels (128 + p) (omega arith)) (asks .levels-hold .spans p h);
+          spans =
+              λ p h. rw (swept .same-levels p (omega arith), swept .same-levels (128 + p) (omega arith))
+              (asks .levels-hold .spans p h);
           marked = λ p h.
-              rw (swept .same-levels p (omega arith), swept .same-levels (128 + p) (omega arith), rest-is p h, new-here p h) (swept .marked p h);
+              rw (
+                swept .same-levels p (omega arith),
+                swept .same-levels (128 + p) (omega arith),
+                rest-is p h,
+                new-here p h,
+              ) (swept .marked p h);
         }
 
-    module _ {kept′ levels′ : List ℕ} {starved : ℕ} (tended : Tended n rows w s tokens′ put kept levels₁ kept′ levels′ starved) where
+    module _ {kept′ levels′ : List ℕ} {starved : ℕ} (tended : Tended n rows w s tokens′ put kept levels₁ kept′ levels′
+        starved) where
       -- What is kept of each place holds for its new tokens.
       pub levels-hold : Levels rows w s tokens′ kept′ levels′
       levels-hold =
@@ -142,45 +142,65 @@ module _ {n lack : ℕ} {rows : List ℕ} {w s : List (List ℕ)} {tokens kept l
           inside p h false e =
               let past = ltb-false p n e in
               let o = tended .others p past h in
-              rw (o .0, o .1, swept .same-levels p (omega arith), swept .same-levels (128 + p) (omega arith), old-behind p past)
+              rw (
+                o .0,
+                o .1,
+                swept .same-levels p (omega arith),
+                swept .same-levels (128 + p) (omega arith),
+                old-behind p past,
+              )
               (asks .levels-hold .inside p h)
 
       -- Whom one place starves.
       starves-here : (t p : ℕ) → p < 128
-          → ((ltb 0 (getD taken p 0) && bit (lacking-at kept p) t) || (ltb p n && fallen rows w s levels₁ (rest-at tokens′ put p) p t))
+          → ((ltb 0 (getD taken p 0) && bit (lacking-at kept p) t)
+          || (ltb p n && fallen rows w s levels₁ (rest-at tokens′ put p) p t))
           ≡ (ltb 0 (getD taken p 0) && short rows w s t p (rest-at tokens taken p))
       starves-here t p h = go (ltb p n) (ltb 0 (getD taken p 0)) refl refl
         where
           on : On-level levels p (getD tokens p 0)
           on = asks .levels-hold .inside p h
 
-          lacking-is : (k : ℕ) → getD levels p 0 ≤ k → k ≤ getD levels (128 + p) 0 → bit (lacking-at kept p) t ≡ short rows w s t p k
+          lacking-is : (k : ℕ) → getD levels p 0 ≤ k → k ≤ getD levels (128 + p) 0
+              → bit (lacking-at kept p) t ≡ short rows w s t p k
           lacking-is k low high = asks .levels-hold .spans p h .lacks-is k low high t
 
           -- The rest is below the level, or on it.
           taking : (c : Bool) → ltb (rest-at tokens taken p) (getD levels p 0) ≡ c
-              → (bit (lacking-at kept p) t || (c && short rows w s t p (rest-at tokens taken p))) ≡ short rows w s t p (rest-at tokens taken p)
+              → (bit (lacking-at kept p) t || (c && short rows w s t p (rest-at tokens taken p)))
+              ≡ short rows w s t p (rest-at tokens taken p)
           taking true y =
-              ap (λ (b : Bool). b || short rows w s t p (rest-at tokens taken p)) (lacking-is (getD tokens p 0) (on .0) (on .1))
-              ∙ fewer (bit (inputs rows p) t) (not (eqb (cell s p t) 2)) (rest-at tokens taken p) (getD tokens p 0) (cell w p t) (omega arith)
+              ap (λ (b : Bool). b || short rows w s t p (rest-at tokens taken p))
+              (lacking-is (getD tokens p 0) (on .0) (on .1))
+              ∙ fewer (bit (inputs rows p) t) (not (eqb (cell s p t) 2)) (rest-at tokens taken p) (getD tokens p 0)
+              (cell w p t) (omega arith)
           taking false y =
               or-false (bit (lacking-at kept p) t)
-              ∙ lacking-is (rest-at tokens taken p) (ltb-false (rest-at tokens taken p) (getD levels p 0) y) (omega (arith, on .1))
+              ∙ lacking-is (rest-at tokens taken p) (ltb-false (rest-at tokens taken p) (getD levels p 0) y)
+              (omega (arith, on .1))
 
           go : (a b : Bool) → ltb p n ≡ a → ltb 0 (getD taken p 0) ≡ b
               → ((b && bit (lacking-at kept p) t) || (a && fallen rows w s levels₁ (rest-at tokens′ put p) p t))
               ≡ (b && short rows w s t p (rest-at tokens taken p))
-          go false true z x = absurd (omega (arith, asks .none-taken p (ltb-false p n z) h, ltb-true 0 (getD taken p 0) x))
+          go false true z x =
+              absurd (omega (arith, asks .none-taken p (ltb-false p n z) h, ltb-true 0 (getD taken p 0) x))
           go false false z x = refl
           go true false z x =
-              let stays : getD levels p 0 ≤ rest-at tokens taken p = omega (arith, on .0, ltb-false 0 (getD taken p 0) x) in
-              rw (rest-is p (ltb-true p n z), swept .same-levels p (omega arith), le-ltb (rest-at tokens taken p) (getD levels p 0) stays)
+              let stays : getD levels p 0 ≤ rest-at tokens taken p =
+              omega (arith, on .0, ltb-false 0 (getD taken p 0) x) in
+              rw (
+                rest-is p (ltb-true p n z),
+                swept .same-levels p (omega arith),
+                le-ltb (rest-at tokens taken p) (getD levels p 0) stays,
+              )
           go true true z x =
-              rw (rest-is p (ltb-true p n z), swept .same-levels p (omega arith)) (taking (ltb (rest-at tokens taken p) (getD levels p 0)) refl)
+              rw (rest-is p (ltb-true p n z), swept .same-levels p (omega arith))
+              (taking (ltb (rest-at tokens taken p) (getD levels p 0)) refl)
 
       -- Whom all places starve.
       pub starves : (t : ℕ) {r : Bool} → r ≡ (bit lack t || bit starved t)
-          → r ≡ some 128 (λ p. ltb 0 (getD taken p 0) && (bit (inputs rows p) t && lacks (cell w p t) (cell s p t) (rest-at tokens taken p)))
+          → r ≡ some 128 (λ p. ltb 0 (getD taken p 0)
+          && (bit (inputs rows p) t && lacks (cell w p t) (cell s p t) (rest-at tokens taken p)))
       starves t is =
           is ∙ ap₂ (λ (a b : Bool). a || b) (asks .lack-is t) (tended .starves t ∙ some-below n 128 _ (asks .few))
           ∙ some-or 128 _ _ ∙ some-same 128 _ _ (starves-here t)

@@ -1,4 +1,5 @@
--- The sweep and the clearing take one place after another: those before are done, and the place at hand still has what it had.
+-- The sweep and the clearing take one place after another: those before are done, and the place at hand still has what
+-- it had.
 use mathlib.Core.Bool.{Bool, true, false, cond}
 use mathlib.Core.List.{List}
 use mathlib.Core.Path.{_≡_, refl, sym, ap, _∙_}
@@ -11,7 +12,8 @@ use borrow.Author.Tests.{eqb-true, eqb-false, ltb-true, ltb-false, lt-ltb, le-lt
 use Rattle.marking.specs.Sweep.{rest-at, new-at, leaves, Swept, Cleared}
 
 -- One more row is written: the rows before have what f says, and the others what g says.
-row-on : (f g : ℕ → ℕ) (rows : List ℕ) (p v : ℕ) → p < length rows → ((q : ℕ) → getD rows q 0 ≡ cond (ltb q p) (f q) (g q)) → v ≡ f p
+row-on : (f g : ℕ → ℕ) (rows : List ℕ) (p v : ℕ) → p < length rows
+    → ((q : ℕ) → getD rows q 0 ≡ cond (ltb q p) (f q) (g q)) → v ≡ f p
     → (q : ℕ) → getD (set rows p v) q 0 ≡ cond (ltb q (p + 1)) (f q) (g q)
 row-on f g rows p v l before e q = go (eqb p q) refl
   where
@@ -48,15 +50,18 @@ none-swept all tokens-size levels-size =
       at-most = λ p h. absurd (omega (arith, h));
     }
 
-module _ {p : ℕ} {tokens₀ taken put levels₀ tokens levels : List ℕ} {all : ℕ} (h : p < 128) (swept : Swept p tokens₀ taken put levels₀ tokens levels all) where
+module _ {p : ℕ} {tokens₀ taken put levels₀ tokens levels : List ℕ} {all : ℕ} (h : p < 128)
+    (swept : Swept p tokens₀ taken put levels₀ tokens levels all) where
   -- The place at hand still has its tokens.
   pub had : getD tokens p 0 ≡ getD tokens₀ p 0
   had = swept .tokens-are p ∙ rw (self p)
 
   -- One more place is swept.
-  pub one-swept : (mark all′ : ℕ) → mark ≡ cond (leaves levels p (rest-at tokens taken p) (new-at tokens taken put p)) 1 0 → all ≤ all′
+  pub one-swept : (mark all′ : ℕ) → mark ≡ cond (leaves levels p (rest-at tokens taken p) (new-at tokens taken put p))
+      1 0 → all ≤ all′
       → new-at tokens taken put p ≤ all′
-      → Swept (p + 1) tokens₀ taken put levels₀ (set tokens p (new-at tokens taken put p)) (set levels (256 + p) mark) all′
+      → Swept (p + 1) tokens₀ taken put levels₀ (set tokens p (new-at tokens taken put p)) (set levels (256 + p) mark)
+      all′
   one-swept mark all′ is more most =
       record {
         tokens-size = length-set tokens p _ ∙ swept .tokens-size;
@@ -74,7 +79,8 @@ module _ {p : ℕ} {tokens₀ taken put levels₀ tokens levels : List ℕ} {all
       new = ap (λ (x : ℕ). x + getD put p 0) rest
 
       marked : (q : ℕ) → q < p + 1 → (b : Bool) → eqb p q ≡ b
-          → getD (set levels (256 + p) mark) (256 + q) 0 ≡ cond (leaves levels₀ q (rest-at tokens₀ taken q) (new-at tokens₀ taken put q)) 1 0
+          → getD (set levels (256 + p) mark) (256 + q) 0
+          ≡ cond (leaves levels₀ q (rest-at tokens₀ taken q) (new-at tokens₀ taken put q)) 1 0
       marked q l true e =
           rw (← eqb-true p q e)
           (getD-set-same levels (256 + p) mark 0 (omega (arith, swept .levels-size)) ∙ is

@@ -1,4 +1,5 @@
--- A turn of taking: a member of the word takes its weight at its place, so what is taken and what is still to be taken there stays the same.
+-- A turn of taking: a member of the word takes its weight at its place, so what is taken and what is still to be taken
+-- there stays the same.
 use mathlib.Core.Bool.{Bool, true, false, cond, not, _&&_, _||_, and-true, and-false}
 use mathlib.Core.List.{List}
 use mathlib.Core.Path.{_≡_, refl, sym, _∙_}
@@ -22,11 +23,13 @@ pub record Taking (word from u : ℕ) (w : List (List ℕ)) (kept taken₀ taken
   pub within : (p : ℕ) → bit left p ≡ true → bit word p ≡ true
   pub size : length taken ≡ 128
   pub takes : (p : ℕ) → p < 64
-      → getD taken (from + p) 0 + cond (bit left p) (cell w (from + p) u) 0 ≡ getD taken₀ (from + p) 0 + cond (bit word p) (cell w (from + p) u) 0
+      → getD taken (from + p) 0 + cond (bit left p) (cell w (from + p) u) 0
+      ≡ getD taken₀ (from + p) 0 + cond (bit word p) (cell w (from + p) u) 0
   pub at-most : (p : ℕ) → p < 64 → getD taken (from + p) 0 ≤ getD taken₀ (from + p) 0 + cond (bit left p) 0 65535
   pub before : (q : ℕ) → q < from → getD taken q 0 ≡ getD taken₀ q 0
   pub behind : (q : ℕ) → from + 64 ≤ q → getD taken q 0 ≡ getD taken₀ q 0
-  pub lack-is : (j : ℕ) → (bit lack j || any left (λ p. bit (lacking-at kept (from + p)) j)) ≡ any word (λ p. bit (lacking-at kept (from + p)) j)
+  pub lack-is : (j : ℕ) → (bit lack j || any left (λ p. bit (lacking-at kept (from + p)) j))
+      ≡ any word (λ p. bit (lacking-at kept (from + p)) j)
 
 module _ {word from u : ℕ} {w : List (List ℕ)} {kept taken₀ : List ℕ} where
   -- At first all members are still to take.
@@ -58,7 +61,8 @@ module _ {word from u : ℕ} {w : List (List ℕ)} {kept taken₀ : List ℕ} wh
 
   -- Member k takes its weight.
   pub one-taken : {taken : List ℕ} {left lack : ℕ} → Taking word from u w kept taken₀ taken left lack → from ≤ 64
-      → (k rest weight lack′ : ℕ) → k < 64 → bit left k ≡ true → rest < 2 ^ 64 → ((j : ℕ) → bit rest j ≡ (bit left j && not (eqb k j)))
+      → (k rest weight lack′ : ℕ) → k < 64 → bit left k ≡ true → rest < 2 ^ 64
+      → ((j : ℕ) → bit rest j ≡ (bit left j && not (eqb k j)))
       → weight ≡ cell w (from + k) u → weight ≤ 65535
       → ((j : ℕ) → bit lack′ j ≡ (bit lack j || bit (lacking-at kept (from + k)) j))
       → Taking word from u w kept taken₀ (set taken (from + k) (getD taken (from + k) 0 + weight)) rest lack′
@@ -71,7 +75,9 @@ module _ {word from u : ℕ} {w : List (List ℕ)} {kept taken₀ : List ℕ} wh
         at-most = λ p h. at-most p h (eqb k p) refl;
         before = λ q h. other q (λ e. omega arith) ∙ x .before q h;
         behind = λ q h. other q (λ e. omega arith) ∙ x .behind q h;
-        lack-is = λ j. gathers left k rest low has less (λ p. bit (lacking-at kept (from + p)) j) (bit lack j) (joins j) (x .lack-is j);
+        lack-is =
+            λ j. gathers left k rest low has less (λ p. bit (lacking-at kept (from + p)) j) (bit lack j) (joins j)
+            (x .lack-is j);
       }
     where
       taken′ : List ℕ
@@ -95,10 +101,12 @@ module _ {word from u : ℕ} {w : List (List ℕ)} {kept taken₀ : List ℕ} wh
           other (from + p) (λ q. apart (omega arith))
 
       takes : (p : ℕ) → p < 64 → (b : Bool) → eqb k p ≡ b
-          → getD taken′ (from + p) 0 + cond (bit rest p) (cell w (from + p) u) 0 ≡ getD taken₀ (from + p) 0 + cond (bit word p) (cell w (from + p) u) 0
+          → getD taken′ (from + p) 0 + cond (bit rest p) (cell w (from + p) u) 0
+          ≡ getD taken₀ (from + p) 0 + cond (bit word p) (cell w (from + p) u) 0
       takes p h true e = rw (← eqb-true k p e, gone, add-zero, here, is) (rw has at (x .takes k low))
       takes p h false e = rw (still p e, elsewhere p e) (x .takes p h)
 
-      at-most : (p : ℕ) → p < 64 → (b : Bool) → eqb k p ≡ b → getD taken′ (from + p) 0 ≤ getD taken₀ (from + p) 0 + cond (bit rest p) 0 65535
+      at-most : (p : ℕ) → p < 64 → (b : Bool) → eqb k p ≡ b
+          → getD taken′ (from + p) 0 ≤ getD taken₀ (from + p) 0 + cond (bit rest p) 0 65535
       at-most p h true e = rw (← eqb-true k p e, gone, here) (omega (arith, rw has at (x .at-most k low), most))
       at-most p h false e = rw (still p e, elsewhere p e) (x .at-most p h)

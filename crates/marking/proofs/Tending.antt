@@ -1,8 +1,9 @@
--- Places are tended one after another: what is kept of those before holds for their tokens, and of those behind all is as it was.
+-- Places are tended one after another: what is kept of those before holds for their tokens, and of those behind all is
+-- as it was.
 use mathlib.Core.Bool.{Bool, true, false, cond, _||_, or-false}
 use mathlib.Core.List.{List}
 use mathlib.Core.Path.{_≡_, refl, sym, _∙_}
-use Prim.Native.Nat.{ℕ, _+_, _-_, _≤_, _<_}
+use Prim.Native.Nat.{ℕ, _+_, _≤_, _<_}
 use native.Mathlib.Numerals.{add-one}
 use native.Mathlib.Omega.{arith}
 use lib.Dec.{ltb, eqb}
@@ -17,21 +18,25 @@ use Rattle.marking.specs.Sweep.{rest-at, leaves, fallen, Tended}
 
 -- Neither below the first nor past the last.
 pub not-outside : (k from upto : ℕ) → (ltb k from || ltb upto k) ≡ false → (from ≤ k) × (k ≤ upto)
-not-outside k from upto e = (ltb-false k from (or-false-left (ltb k from) _ e), ltb-false upto k (or-false-right (ltb k from) _ e))
+not-outside k from upto e =
+    (ltb-false k from (or-false-left (ltb k from) _ e), ltb-false upto k (or-false-right (ltb k from) _ e))
 
 -- The places below i are tended.
-pub record Tending (i : ℕ) (rows : List ℕ) (w s : List (List ℕ)) (tokens put levels₀ kept levels : List ℕ) (starved : ℕ) : Type 0 where
+pub record Tending (i : ℕ) (rows : List ℕ) (w s : List (List ℕ)) (tokens put levels₀ kept levels : List ℕ)
+    (starved : ℕ) : Type 0 where
   pub kept-size : length kept ≡ 384
   pub levels-size : length levels ≡ 384
   pub spans : (p : ℕ) → p < 128 → Spans-at rows w s kept levels p
   pub inside : (p : ℕ) → p < i → On-level levels p (getD tokens p 0)
-  pub others : (p : ℕ) → i ≤ p → p < 128 → (getD levels p 0 ≡ getD levels₀ p 0) × (getD levels (128 + p) 0 ≡ getD levels₀ (128 + p) 0)
+  pub others : (p : ℕ) → i ≤ p → p < 128 → (getD levels p 0 ≡ getD levels₀ p 0)
+      × (getD levels (128 + p) 0 ≡ getD levels₀ (128 + p) 0)
   pub marks : (p : ℕ) → p < 128 → getD levels (256 + p) 0 ≡ getD levels₀ (256 + p) 0
   pub starves : (t : ℕ) → bit starved t ≡ some i (λ p. fallen rows w s levels₀ (rest-at tokens put p) p t)
 
 module _ {rows : List ℕ} {w s : List (List ℕ)} {tokens put levels₀ : List ℕ} where
   -- At first no place is tended.
-  pub begins : {kept : List ℕ} → length kept ≡ 384 → length levels₀ ≡ 384 → ((p : ℕ) → p < 128 → Spans-at rows w s kept levels₀ p)
+  pub begins : {kept : List ℕ} → length kept ≡ 384 → length levels₀ ≡ 384
+      → ((p : ℕ) → p < 128 → Spans-at rows w s kept levels₀ p)
       → Tending 0 rows w s tokens put levels₀ kept levels₀ 0
   unfolding some
   begins kept-size levels-size spans =
@@ -58,9 +63,11 @@ module _ {rows : List ℕ} {w s : List (List ℕ)} {tokens put levels₀ : List 
         starves = x .starves;
       }
 
-  module _ {p starved : ℕ} {kept levels : List ℕ} (h : p < 128) (x : Tending p rows w s tokens put levels₀ kept levels starved) where
+  module _ {p starved : ℕ} {kept levels : List ℕ} (h : p < 128)
+      (x : Tending p rows w s tokens put levels₀ kept levels starved) where
     -- The set has also whom place p starves.
-    more : (starved′ : ℕ) → ((t : ℕ) → bit starved′ t ≡ (bit starved t || fallen rows w s levels₀ (rest-at tokens put p) p t))
+    more : (starved′ : ℕ) → ((t : ℕ) → bit starved′ t
+        ≡ (bit starved t || fallen rows w s levels₀ (rest-at tokens put p) p t))
         → (t : ℕ) → bit starved′ t ≡ some (p + 1) (λ q. fallen rows w s levels₀ (rest-at tokens put q) q t)
     unfolding some
     more starved′ joins t = joins t ∙ rw (x .starves t, add-one p)
@@ -87,7 +94,8 @@ module _ {rows : List ℕ} {w s : List (List ℕ)} {tokens put levels₀ : List 
             x .inside q (omega arith)
 
     -- What is kept of place p is made anew for its new tokens.
-    pub one-relevelled : {starved′ : ℕ} {kept′ levels′ : List ℕ} → Relevelled p (getD tokens p 0) rows w s kept levels kept′ levels′
+    pub one-relevelled : {starved′ : ℕ} {kept′ levels′ : List ℕ}
+        → Relevelled p (getD tokens p 0) rows w s kept levels kept′ levels′
         → ((t : ℕ) → bit starved′ t ≡ (bit starved t || fallen rows w s levels₀ (rest-at tokens put p) p t))
         → Tending (p + 1) rows w s tokens put levels₀ kept′ levels′ starved′
     one-relevelled {starved′} {kept′} {levels′} anew joins =
@@ -118,7 +126,8 @@ module _ {rows : List ℕ} {w s : List (List ℕ)} {tokens put levels₀ : List 
             rw (o .3, o .4) (x .inside q (omega arith))
 
     -- A place that is not marked did not leave its level: it has its new tokens on it, and starves nobody anew.
-    pub unmarked : getD levels₀ (256 + p) 0 ≡ cond (leaves levels₀ p (rest-at tokens put p) (getD tokens p 0)) 1 0 → getD levels (256 + p) 0 ≡ 0
+    pub unmarked : getD levels₀ (256 + p) 0 ≡ cond (leaves levels₀ p (rest-at tokens put p) (getD tokens p 0)) 1 0
+        → getD levels (256 + p) 0 ≡ 0
         → Tending (p + 1) rows w s tokens put levels₀ kept levels starved
     unmarked mark none = one-stays on (λ t. sym (rw below (or-false (bit starved t))))
       where
@@ -136,5 +145,10 @@ module _ {rows : List ℕ} {w s : List (List ℕ)} {tokens put levels₀ : List 
         on =
             let o = x .others p (omega arith) h in (
               omega (arith, o .0, ltb-false (rest-at tokens put p) (getD levels₀ p 0) below),
-              omega (arith, o .1, ltb-false (getD levels₀ (128 + p) 0) (getD tokens p 0) (or-false-right (ltb (rest-at tokens put p) (getD levels₀ p 0)) _ stays)),
+              omega (
+                arith,
+                o .1,
+                ltb-false (getD levels₀ (128 + p) 0) (getD tokens p 0)
+                    (or-false-right (ltb (rest-at tokens put p) (getD levels₀ p 0)) _ stays),
+              ),
             )

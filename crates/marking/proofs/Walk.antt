@@ -2,49 +2,24 @@
 use mathlib.Core.Bool.{Bool, true, false, cond, not, _&&_, _||_, and-true, or-true, or-false, or-assoc}
 use mathlib.Core.Logic.{⊎-elim}
 use mathlib.Core.Path.{_≡_, refl, sym, ap, _∙_}
-use Prim.Native.Nat.{ℕ, zero, suc, _+_, _≤_, _<_}
-use native.Mathlib.Nat.{add-zero, zero-add, add-suc}
+use Prim.Native.Nat.{ℕ, _≤_, _<_}
 use native.Mathlib.Omega.{arith}
 use lib.Dec.{eqb}
-use borrow.Author.Tests.{eqb-true, eq-eqb, ne-eqb}
-use Rattle.meaning.specs.Below.{some, sum, first}
+use borrow.Author.Tests.{eqb-true}
+use Rattle.meaning.specs.Below.{some, sum}
 use Rattle.meaning.specs.Bytes.{bit}
-use Rattle.meaning.proofs.Bool.{not-both, and-left, and-right, and-true as both, or-true-left, or-true-right, or-cases, same-test}
-use Rattle.meaning.proofs.Below.{some-intro, some-elim, none-intro, sum-same, sum-add, sum-zero, sum-mono}
-use Rattle.meaning.proofs.Sound.{sum-one}
+use Rattle.meaning.proofs.Bool.{and-left, and-right, and-true as both, or-true-left, or-true-right, or-cases, same-test}
+use Rattle.meaning.proofs.Below.{some-intro, some-elim, none-intro, sum-zero, sum-mono}
 use Rattle.sets.proofs.Bits.{bit-zero}
-
--- The sum of f over the members of a set.
-abbrev pub over : ℕ → (ℕ → ℕ) → ℕ
-over s f = sum 64 (λ t. cond (bit s t) (f t) 0)
+use Rattle.sets.proofs.Members.{over}
 
 -- Whether a member of the set passes f.
 abbrev pub any : ℕ → (ℕ → Bool) → Bool
 any s f = some 64 (λ t. bit s t && f t)
 
--- What is left after a turn is what was left without the lowest member.
-pub without : (left k rest : ℕ) → k ≡ first 64 (bit left) → ((j : ℕ) → bit rest j ≡ (bit left j && not (eqb (first 64 (bit left)) j)))
-    → (j : ℕ) → bit rest j ≡ (bit left j && not (eqb k j))
-without left k rest e less j = less j ∙ ap (λ (x : ℕ). bit left j && not (eqb x j)) (sym e)
-
 -- A member, and the set without it.
-module _ (left k rest : ℕ) (low : k < 64) (has : bit left k ≡ true) (less : (j : ℕ) → bit rest j ≡ (bit left j && not (eqb k j))) where
-  pub over-less : (f : ℕ → ℕ) → over left f ≡ f k + over rest f
-  over-less f =
-      sum-same 64 (λ t. cond (bit left t) (f t) 0) (λ t. cond (eqb k t) (f t) 0 + cond (bit rest t) (f t) 0)
-      (λ t h. rw (less t) (part t (eqb k t) (bit left t) refl refl))
-      ∙ sum-add 64 (λ t. cond (eqb k t) (f t) 0) (λ t. cond (bit rest t) (f t) 0)
-      ∙ ap (λ (x : ℕ). x + over rest f) lone
-    where
-      part : (t : ℕ) (b c : Bool) → eqb k t ≡ b → bit left t ≡ c → cond c (f t) 0 ≡ cond b (f t) 0 + cond (c && not b) (f t) 0
-      part t true true e d = sym (add-zero (f t))
-      part t true false e d = not-both (ap (bit left) (sym (eqb-true k t e)) ∙ has) d
-      part t false true e d = sym (zero-add (f t))
-      part t false false e d = refl
-
-      lone : sum 64 (λ t. cond (eqb k t) (f t) 0) ≡ f k
-      lone = sum-one 64 (λ t. cond (eqb k t) (f t) 0) k low (λ t h n. rw (ne-eqb k t (λ e. n (sym e)))) ∙ rw (eq-eqb k k refl)
-
+module _ (left k rest : ℕ) (low : k < 64) (has : bit left k ≡ true)
+    (less : (j : ℕ) → bit rest j ≡ (bit left j && not (eqb k j))) where
   -- The set has the member and the others.
   with-others : (j : ℕ) → bit left j ≡ (bit rest j || eqb k j)
   with-others j = rw (less j) (go (eqb k j) refl)
@@ -62,7 +37,8 @@ module _ (left k rest : ℕ) (low : k < 64) (has : bit left k ≡ true) (less : 
           let w = some-elim 64 (λ t. bit left t && f t) e in
           let t : ℕ = w .0 in
           let passes : f t ≡ true = and-right (bit left t) (f t) (w .2) in
-          ⊎-elim (λ (q : bit rest t ≡ true). or-true-right (f k) (some-intro 64 (λ t. bit rest t && f t) t (w .1) (both q passes)))
+          ⊎-elim (λ (q : bit rest t ≡ true). or-true-right (f k)
+          (some-intro 64 (λ t. bit rest t && f t) t (w .1) (both q passes)))
           (λ (q : eqb k t ≡ true). or-true-left _ (ap f (eqb-true k t q) ∙ passes))
           (or-cases (bit rest t) (eqb k t) (sym (with-others t) ∙ and-left (bit left t) (f t) (w .2)))
 
@@ -72,12 +48,14 @@ module _ (left k rest : ℕ) (low : k < 64) (has : bit left k ≡ true) (less : 
           (λ (q : any rest f ≡ true).
           let w = some-elim 64 (λ t. bit rest t && f t) q in
           let t : ℕ = w .0 in
-          let member : bit left t ≡ true = with-others t ∙ or-true-left (eqb k t) (and-left (bit rest t) (f t) (w .2)) in
+          let member : bit left t ≡ true =
+          with-others t ∙ or-true-left (eqb k t) (and-left (bit rest t) (f t) (w .2)) in
           some-intro 64 (λ t. bit left t && f t) t (w .1) (both member (and-right (bit rest t) (f t) (w .2))))
           (or-cases (f k) (any rest f) e)
 
   -- What is gathered, with what the others are to give, stays the same where the member gives what it has.
-  pub gathers : (f : ℕ → Bool) (b : Bool) {c all : Bool} → c ≡ (b || f k) → (b || any left f) ≡ all → (c || any rest f) ≡ all
+  pub gathers : (f : ℕ → Bool) (b : Bool) {c all : Bool} → c ≡ (b || f k) → (b || any left f) ≡ all
+      → (c || any rest f) ≡ all
   gathers f b gives before =
       rw gives (or-assoc b (f k) (any rest f) ∙ ap (λ (x : Bool). b || x) (sym (any-less f)) ∙ before)
 
@@ -87,7 +65,8 @@ over-none left f e = sum-zero 64 (λ t. cond (bit left t) (f t) 0) (λ t l. rw (
 
 pub all-gathered : (left : ℕ) (f : ℕ → Bool) (b : Bool) {all : Bool} → left ≡ 0 → (b || any left f) ≡ all → b ≡ all
 all-gathered left f b e before =
-    sym (or-false b) ∙ ap (λ (x : Bool). b || x) (sym (none-intro 64 (λ t. bit left t && f t) (λ t l. rw (e, bit-zero t)))) ∙ before
+    sym (or-false b) ∙ ap (λ (x : Bool). b || x) (sym
+    (none-intro 64 (λ t. bit left t && f t) (λ t l. rw (e, bit-zero t)))) ∙ before
 
 -- A set has at most 64 members.
 pub over-most : (s : ℕ) → over s (λ t. 65535) ≤ 4194240
@@ -98,16 +77,11 @@ over-most s = sum-mono 64 (λ t. cond (bit s t) 65535 0) (λ t. 65535) (λ k h. 
     at-most true = omega arith
     at-most false = omega arith
 
--- Some number below m + n is some number below m, or m and some number below n.
-pub some-split : (m n : ℕ) (p : ℕ → Bool) → some (m + n) p ≡ (some m p || some n (λ k. p (m + k)))
-unfolding some
-some-split m zero p = rw (add-zero m) (sym (or-false (some m p)))
-some-split m (suc n) p = rw (add-suc m n, some-split m n p) (or-assoc (some m p) (some n (λ k. p (m + k))) (p (m + n)))
-
 -- A member of a set is at a place that passes: some place is one of a member's, and passes.
 pub by-places : (s : ℕ) (at : ℕ → ℕ → Bool) (f : ℕ → Bool)
     → any s (λ t. some 128 (λ p. at p t && f p)) ≡ some 128 (λ p. any s (at p) && f p)
-by-places s at f = same-test (any s (λ t. some 128 (λ p. at p t && f p))) (some 128 (λ p. any s (at p) && f p)) there back
+by-places s at f =
+    same-test (any s (λ t. some 128 (λ p. at p t && f p))) (some 128 (λ p. any s (at p) && f p)) there back
   where
     there : any s (λ t. some 128 (λ p. at p t && f p)) ≡ true → some 128 (λ p. any s (at p) && f p) ≡ true
     there e =
@@ -117,7 +91,8 @@ by-places s at f = same-test (any s (λ t. some 128 (λ p. at p t && f p))) (som
         let p : ℕ = v .0 in
         let member : bit s t ≡ true = and-left (bit s t) (some 128 (λ p. at p t && f p)) (w .2) in
         some-intro 128 (λ p. any s (at p) && f p) p (v .1)
-        (both (some-intro 64 (λ t. bit s t && at p t) t (w .1) (both member (and-left (at p t) (f p) (v .2)))) (and-right (at p t) (f p) (v .2)))
+        (both (some-intro 64 (λ t. bit s t && at p t) t (w .1) (both member (and-left (at p t) (f p) (v .2))))
+        (and-right (at p t) (f p) (v .2)))
 
     back : some 128 (λ p. any s (at p) && f p) ≡ true → any s (λ t. some 128 (λ p. at p t && f p)) ≡ true
     back e =
@@ -127,4 +102,5 @@ by-places s at f = same-test (any s (λ t. some 128 (λ p. at p t && f p))) (som
         let t : ℕ = v .0 in
         let passes : f p ≡ true = and-right (any s (at p)) (f p) (w .2) in
         some-intro 64 (λ t. bit s t && some 128 (λ p. at p t && f p)) t (v .1)
-        (both (and-left (bit s t) (at p t) (v .2)) (some-intro 128 (λ p. at p t && f p) p (w .1) (both (and-right (bit s t) (at p t) (v .2)) passes)))
+        (both (and-left (bit s t) (at p t) (v .2)) (some-intro 128 (λ p. at p t && f p) p (w .1)
+        (both (and-right (bit s t) (at p t) (v .2)) passes)))

@@ -7,15 +7,9 @@ use lib.Dec.{eqb}
 use lib.ListN.{length, getD}
 use Rattle.meaning.specs.Below.{some, sum}
 use Rattle.meaning.specs.Bytes.{bit}
-use Rattle.rows.specs.Rows.{takers, functions, cell}
+use Rattle.rows.specs.Rows.{takers, functions, cell, taken-at}
+use Rattle.arcs.specs.Arcs.{takes-low, takes-high}
 use Rattle.marking.specs.declared.Moved.{Moved}
-
--- Of transition t: the places 0 to 63 from which it takes, and those from 64 on.
-abbrev takes-low : List ℕ → ℕ → ℕ
-takes-low arcs t = getD arcs (5 * t + 2) 0
-
-abbrev takes-high : List ℕ → ℕ → ℕ
-takes-high arcs t = getD arcs (5 * t + 3) 0
 
 -- Who lacks tokens at place p, by what is kept of it.
 abbrev pub lacking-at : List ℕ → ℕ → ℕ
@@ -44,10 +38,7 @@ given-upto (suc n) posts link p =
 abbrev pub given : List ℕ → ℕ → ℕ → ℕ
 given posts link p = given-upto link posts link p
 
--- What the members of a set take at place p, and what they put there.
-abbrev pub taken-at : ℕ → List ℕ → List (List ℕ) → ℕ → ℕ
-taken-at fired rows w p = sum 64 (λ t. cond (bit fired t && bit (takers rows p) t) (cell w p t) 0)
-
+-- What the members of a set put at place p.
 abbrev pub put-at : ℕ → List ℕ → List ℕ → ℕ → ℕ
 put-at fired heads posts p = sum 64 (λ t. cond (bit fired t) (given posts (getD heads t 0) p) 0)
 

@@ -1,5 +1,6 @@
 // What firing does to the marking: what the fired transitions take and put at each place, and the marking after it,
 // with what is kept of each place made anew where the place left its level.
+use arcs::TAKES;
 use levels::LACKS;
 use levels::LEFT;
 use levels::UPTO;
@@ -17,16 +18,6 @@ ghost use Rattle.meaning.specs.Below.{first};
 ghost use Rattle.marking.specs.Moves.{Take-asks, Took, Give-asks, Gave, Tally-asks, Tallied};
 ghost use Rattle.marking.specs.Settle.{Settle-asks, Settles};
 ghost use Rattle.marking.specs.Sweep.{Low-four, Sweep-asks, Swept, Tend-asks, Tended, Clear-asks, Cleared};
-
-// Of transition t: the places 0 to 63 from which it takes at 5 * t + TAKES, and the others behind them.
-const TAKES: usize = 2;
-
-// A link as a number that counts.
-fn count(x: u16) -> usize
-    ensures { λ r. ⌜ r ≡ x ⌝ }
-{
-    x as usize
-}
 
 // Adds at each place of the word what transition u takes there; the word has 64 places, from `from` on. The answer is
 // who lacks tokens at these places.
@@ -46,7 +37,7 @@ fn take(
     let mut lack = 0u64;
     while left != 0 {
         let p = from + sets::lowest(left);
-        taken[p] = taken[p] + levels::wide(w[p][u]);
+        taken[p] = taken[p] + numbers::wide(w[p][u]);
         lack = sets::union(lack, kept[LACKS + p]);
         left = sets::rest(left);
     }
@@ -58,12 +49,12 @@ fn give(first: u16, put: &mut [u32; 128], posts: &[u16])
     requires { ⌜ Give-asks first (now put) (now posts) ⌝ }
     ensures { λ _. ⌜ Gave first (now (posts .entry)) (now (put .entry)) (now (put .exit)) ⌝ }
 {
-    let mut link = count(first);
+    let mut link = numbers::count(first);
     while link != 0 {
         let k = link - 1;
-        let p = count(posts[3 * k + PLACE]);
-        put[p] = put[p] + levels::wide(posts[3 * k + WEIGHT]);
-        link = count(posts[3 * k + NEXT]);
+        let p = numbers::count(posts[3 * k + PLACE]);
+        put[p] = put[p] + numbers::wide(posts[3 * k + WEIGHT]);
+        link = numbers::count(posts[3 * k + NEXT]);
     }
 }
 

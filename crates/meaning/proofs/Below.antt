@@ -181,11 +181,11 @@ pub within-out : (n : ℕ) (p : ℕ → Bool) (k : ℕ) → n ≤ k → within (
 unfolding members within
 within-out zero p k h = refl
 within-out (suc n) p k h =
-    within-append (members n p) (cond (p n) (n ∷ []) []) k ∙ rw (within-out n p k (omega arith)) (lone (p n))
+    within-append (members n p) (cond (p n) (n ∷ []) []) k ∙ rw (within-out n p k (omega arith)) (alone (p n))
   where
-    lone : (b : Bool) → within (cond b (n ∷ []) []) k ≡ false
-    lone true = or-false (ne-eqb n k (λ e. omega arith)) refl
-    lone false = refl
+    alone : (b : Bool) → within (cond b (n ∷ []) []) k ≡ false
+    alone true = or-false (ne-eqb n k (λ e. omega arith)) refl
+    alone false = refl
 
 -- The members below n that pass p are those that pass p.
 pub within-members : (n : ℕ) (p : ℕ → Bool) (k : ℕ) → k < n → within (members n p) k ≡ p k

@@ -1,12 +1,12 @@
 -- What one more cycle adds to a run, and that states which agree on places and transitions come to the same cycle.
-use mathlib.Core.Bool.{Bool, true, _&&_}
-use mathlib.Core.List.{List, [], _∷_, _++_, append-assoc, append-nil}
+use mathlib.Core.Bool.{_&&_}
+use mathlib.Core.List.{List, _∷_, _++_, append-assoc, append-nil}
 use mathlib.Core.Path.{_≡_, refl, sym, ap, ap₂, _∙_, fun-ext}
 use Prim.Native.Nat.{ℕ, zero, suc, _≤_, _<_}
 use native.Mathlib.Omega.{arith}
 use lib.Dec.{ltb, eqb}
 use borrow.Author.Tests.{eqb-true}
-use Rattle.meaning.specs.Below.{first, some, within}
+use Rattle.meaning.specs.Below.{first, within}
 use Rattle.meaning.specs.Bytes.{bytes, bits}
 use Rattle.meaning.specs.Table.{Table, is}
 use Rattle.meaning.specs.Image.{State, image, state, image-bytes, join, place-record, transition-record}

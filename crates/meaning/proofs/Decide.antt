@@ -62,11 +62,6 @@ unfolding decide
 decide-clean [] ok h = refl
 decide-clean (c ∷ cs) ok h = decide-pass c cs ok (h .0) ∙ decide-clean cs ok (h .1)
 
--- The first check that finds something, behind clean ones, is answered.
-pub decide-at : (xs : List Check) (c : Check) (cs : List Check) (ok : Answer) (k : ℕ) → AllClean xs → Found c k
-    → decide (xs ++ c ∷ cs) ok ≡ c .answer k
-decide-at xs c cs ok k h f = decide-append xs (c ∷ cs) ok h ∙ decide-first c cs ok k f
-
 -- What a check finds, it refuses: by a number that is not 0, before any cycle.
 abbrev pub Refuses : Check → Type 0
 Refuses c = (k : ℕ) → k < c .below → c .bad k ≡ true → (0 < c .answer k .number) × (c .answer k .cycles ≡ 0)

@@ -6,25 +6,24 @@ use mathlib.Core.Logic.{_↔_, _⊎_, inl, inr, ⊎-elim}
 use mathlib.Core.Path.{_≡_, refl, sym, ap, _∙_}
 use Prim.Native.Nat.{ℕ, _≤_, _<_}
 use native.Mathlib.Omega.{arith}
-use lib.ListN.{length, take}
 use Rattle.meaning.specs.Below.{within}
 use Rattle.meaning.specs.Bytes.{number}
-use Rattle.meaning.specs.Table.{Table, table}
+use Rattle.meaning.specs.Table.{table}
 use Rattle.meaning.specs.Priority.{above}
 use Rattle.meaning.specs.Answer.{Answer, accepted, refused}
 use Rattle.meaning.specs.Defined.{check}
-use Rattle.meaning.specs.Image.{State, state, image, image-bytes}
-use Rattle.meaning.specs.Cycle.{falling, firable, withdrawn, marked, cycle, fired}
-use Rattle.meaning.specs.Calls.{start, ran, run, trace, words-of}
+use Rattle.meaning.specs.Image.{State, state, image}
+use Rattle.meaning.specs.Cycle.{falling, firable, withdrawn, cycle, fired}
+use Rattle.meaning.specs.Calls.{start, ran, run, trace}
 use Rattle.meaning.specs.Says.{Table-says, Start-says, Run-says}
 use Rattle.meaning.specs.Orders.{Meets, Safe}
 use Rattle.meaning.specs.Source.{source-falling, source-run}
-use Rattle.meaning.specs.Steps.{Steps, Stays, Bursts}
+use Rattle.meaning.specs.Steps.{Steps, Bursts}
 use Rattle.meaning.proofs.Answers.{check-refuses, check-accepts, check-form, start-refuses, start-accepts, start-form, run-stops, run-goes, run-form}
 use Rattle.meaning.proofs.Accepted.{accepted-well}
 use Rattle.meaning.proofs.Fired.{fired-meets, fired-only}
 use Rattle.meaning.proofs.Fits.{Fits}
-use Rattle.meaning.proofs.Demand3.{start-pays, residual-whole, any-order, marking-stands}
+use Rattle.meaning.proofs.Demand3.{start-pays, residual-whole, any-order}
 use Rattle.meaning.proofs.Source.{stopping-changes-nothing}
 use Rattle.meaning.proofs.Sequence.{one-end}
 use Rattle.meaning.proofs.Run.{verdict, words, run-goes-on, run-refused-leaves, run-accepted-leaves, run-full-leaves, trace-finishes, trace-bursts, trace-number}
@@ -41,8 +40,8 @@ table-low (Table-says.twice s l m h) = omega arith
 table-low (Table-says.unknown l h) = omega arith
 table-low (Table-says.no-place h) = omega arith
 table-low (Table-says.no-transition h) = omega arith
-table-low (Table-says.lone-place p h) = omega arith
-table-low (Table-says.lone-transition t p h) = omega arith
+table-low (Table-says.isolated-place p h) = omega arith
+table-low (Table-says.isolated-transition t p h) = omega arith
 table-low (Table-says.circle h) = omega arith
 table-low (Table-says.conflict i j l m c h) = omega arith
 
@@ -107,11 +106,11 @@ module _ (bs img ws report : List ℕ) where
   -- Run goes on to its cycles where it answers 0 or 13.
   pub went : (run bs img ws report .answer .number ≡ 0) ⊎ (run bs img ws report .answer .number ≡ 13)
       → verdict bs img ws report ≡ accepted 0
-  went h = ⊎-elim (λ e. e) (λ x. absurd (clash x h)) verdict-form
+  went h = ⊎-elim (λ e. e) (λ x. absurd (both-hold x h)) verdict-form
     where
-      clash : (n : ℕ) × (w : ℕ) × (0 < n) × (n < 13) × (verdict bs img ws report ≡ refused n w)
+      both-hold : (n : ℕ) × (w : ℕ) × (0 < n) × (n < 13) × (verdict bs img ws report ≡ refused n w)
           → (run bs img ws report .answer .number ≡ 0) ⊎ (run bs img ws report .answer .number ≡ 13) → ⊥
-      clash x h =
+      both-hold x h =
           let named : verdict bs img ws report .number ≡ x .0 = ap (λ (a : Answer). a .number) (x .4) in
           let same : run bs img ws report .answer .number ≡ x .0 =
           ap (λ (a : Answer). a .number) (run-refused-leaves bs img ws report (λ z. omega arith) .2) ∙ named in
@@ -229,23 +228,6 @@ demand-3 bs e img word =
           let known = any-order (table bs) well s word order o in
           one-end f (known .1) p ∙ known .2 p;
     }
-
--- One word's cycle that is taken leaves the image after it.
-one-step : {tb : Table} {img img′ bytes : List ℕ} {n w : ℕ} → Steps tb (w ∷ []) img n [] img′ bytes
-    → Stays tb img w × (img′ ≡ image-bytes (cycle tb img w .after))
-one-step (Steps.more stays Steps.none) = (stays, refl)
-
--- A call of run with one word that is accepted leaves that marking in the image.
-pub demand-3-reported : (bs img ws report : List ℕ) → length ws ≡ 8 → run bs img ws report .answer .number ≡ 0
-    → (p : ℕ) → p < 128
-    → state (image (run bs img ws report .image)) .tokens p
-    ≡ marked (table bs) (state (image img) .tokens) (within (cycle (table bs) img (number (take 8 ws)) .fired)) p
-unfolding words-of
-demand-3-reported bs img ws report e z p l =
-    let left = run-accepted-leaves bs img ws report z in
-    let steps : Steps (table bs) (number (take 8 ws) ∷ []) img (left .0) [] (left .1) (left .2) = rw e at (left .3) in
-    let after = one-step steps in
-    rw (left .4 .1, after .1) (marking-stands (table bs) img (number (take 8 ws)) (after .0) p l)
 
 -- What goes with demand 3: the residual marking of any transition is M less what is really there, so natural
 -- subtraction hides nothing.

@@ -106,14 +106,14 @@ module _ (tb : Table) (well : Well tb) where
       → total tb (λ r. a r && eqb (tb .one r) p && F (tb .two r)) (tb .four) ≡ 0
   unfolding total
   quiet a F p arcs none =
-      sum-zero (tb .records) _ (λ r l. zero-of (a r && eqb (tb .one r) p && F (tb .two r)) (tb .four r) (λ e. clash r l (and-left _ (F (tb .two r)) e)))
+      sum-zero (tb .records) _ (λ r l. zero-of (a r && eqb (tb .one r) p && F (tb .two r)) (tb .four r) (λ e. both-hold r l (and-left _ (F (tb .two r)) e)))
     where
       zero-of : (b : Bool) (w : ℕ) → (b ≡ true → ⊥) → cond b w 0 ≡ 0
       zero-of true w f = absurd (f refl)
       zero-of false w f = refl
 
-      clash : (r : ℕ) → r < tb .records → (a r && eqb (tb .one r) p) ≡ true → ⊥
-      clash r l e =
+      both-hold : (r : ℕ) → r < tb .records → (a r && eqb (tb .one r) p) ≡ true → ⊥
+      both-hold r l e =
           not-both (ap (place tb) (sym (eqb-true (tb .one r) p (and-right (a r) _ e))) ∙ well .arc-place r l (arcs r (and-left (a r) _ e))) none
 
   pub empty-stays : (m : ℕ → ℕ) (F : ℕ → Bool) (p : ℕ) → place tb p ≡ false → m p ≡ 0 → marked tb m F p ≡ 0

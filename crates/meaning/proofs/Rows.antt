@@ -82,19 +82,19 @@ no-transition-decides tb =
     (λ n w. n (tb .one (w .0)) (w .0, w .1, w .2, refl))
 
 -- 7: a declared place, a declared transition with no arc.
-pub lone-place-decides : (tb : Table) (p : ℕ)
+pub place-isolated-decides : (tb : Table) (p : ℕ)
     → Decides (place tb p && not (arc-at-place tb p)) (Place tb p × ((s t w : ℕ) → ¬ Arc tb s p t w))
 unfolding arc-at-place
-lone-place-decides tb p =
+place-isolated-decides tb p =
     and-decides (place-decides tb p)
     (recast (not-decides (some-decides (tb .records) (λ r. and-decides (eq-decides (tb .kind r) 3) (eq-decides (tb .one r) p))))
     (λ n s t w a. n (a .0, a .1, (a .2, a .4)))
     (λ n a. n (tb .sort (a .0)) (tb .two (a .0)) (tb .four (a .0)) (a .0, a .1, a .2 .0, refl, a .2 .1, refl, refl)))
 
-pub lone-transition-decides : (tb : Table) (t : ℕ)
+pub transition-isolated-decides : (tb : Table) (t : ℕ)
     → Decides (transition tb t && not (arc-at-transition tb t)) (Transition tb t × ((s p w : ℕ) → ¬ Arc tb s p t w))
 unfolding arc-at-transition
-lone-transition-decides tb t =
+transition-isolated-decides tb t =
     and-decides (transition-decides tb t)
     (recast (not-decides (some-decides (tb .records) (λ r. and-decides (eq-decides (tb .kind r) 3) (eq-decides (tb .two r) t))))
     (λ n s p w a. n (a .0, a .1, (a .2, a .5)))

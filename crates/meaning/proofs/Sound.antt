@@ -12,7 +12,7 @@ use Rattle.meaning.specs.Below.{sum}
 use Rattle.meaning.specs.Table.{Table, table, is, total, declared, transition, timing, a-of, b-of}
 use Rattle.meaning.specs.Priority.{above}
 use Rattle.meaning.specs.Answer.{accepted}
-use Rattle.meaning.specs.Defined.{same, twice, unknown, circle, conflict, settled, unsettled, clashes, table-checks, check}
+use Rattle.meaning.specs.Defined.{same, twice, unknown, circle, conflict, settled, unsettled, in-unsettled, table-checks, check}
 use Rattle.meaning.specs.Says.{Same, Transition, Timed}
 use Rattle.meaning.proofs.Bool.{not-both, and-left, and-right, and-true}
 use Rattle.meaning.proofs.Below.{last, sum-zero, some-intro, none-elim}
@@ -74,14 +74,14 @@ pub record Sound-table (tb : Table) : Type 0 where
   pub settles : (i j : ℕ) → i < 64 → j < 64 → unsettled tb i j ≡ false
 
 -- Where i is in no unsettled pair, i and j are none.
-no-pair : (tb : Table) (i j : ℕ) → ((r : ℕ) → r < tb .records → unknown tb r ≡ false) → clashes tb i ≡ false → j < 64
+no-pair : (tb : Table) (i j : ℕ) → ((r : ℕ) → r < tb .records → unknown tb r ≡ false) → in-unsettled tb i ≡ false → j < 64
     → unsettled tb i j ≡ false
-unfolding clashes unsettled
+unfolding in-unsettled unsettled
 no-pair tb i j known e m =
     not-true-false (unsettled tb i j)
     (λ u.
-    let clash = and-left (conflict tb i j) (not (settled tb i j)) (and-right (ltb i j) (conflict tb i j && not (settled tb i j)) u) in
-    let declared-i = transition-decides tb i .1 (arc-transition tb known (conflict-decides tb i j .0 clash .3)) in
+    let both-hold = and-left (conflict tb i j) (not (settled tb i j)) (and-right (ltb i j) (conflict tb i j && not (settled tb i j)) u) in
+    let declared-i = transition-decides tb i .1 (arc-transition tb known (conflict-decides tb i j .0 both-hold .3)) in
     not-both (and-true declared-i (some-intro 64 (unsettled tb i) j m u)) e)
 
 -- Clean checks leave a sound table.

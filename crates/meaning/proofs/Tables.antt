@@ -12,7 +12,7 @@ use borrow.Author.Tests.{lt-ltb, le-ltb, ltb-true, ltb-false}
 use Rattle.meaning.specs.Below.{some, first}
 use Rattle.meaning.specs.Table.{Table, table, place, transition}
 use Rattle.meaning.specs.Answer.{refused, Check, check-of}
-use Rattle.meaning.specs.Defined.{bad-length, fault, unknown, empty, isolated, circle, arc-at-place, arc-at-transition, unsettled, clashes, table-checks}
+use Rattle.meaning.specs.Defined.{bad-length, fault, unknown, empty, isolated, circle, arc-at-place, arc-at-transition, unsettled, in-unsettled, table-checks}
 use Rattle.meaning.specs.Says.{Place, Transition, Arc, Names-unknown, Above, Conflict, Settled, Table-says, stage}
 use Rattle.meaning.proofs.Bool.{either, not-both, and-right, and-true}
 use Rattle.meaning.proofs.Closure.{closed}
@@ -21,7 +21,7 @@ use Rattle.meaning.proofs.Reflect.{Decides, eq-decides, lt-decides, or-
 use Rattle.meaning.proofs.Shows.{Shows}
 use Rattle.meaning.proofs.Same.{of-kind, shown-place, shown-transition, shown-priority}
 use Rattle.meaning.proofs.Faults.{faults, faultless, fault-range, kind-caught, field-caught, again-caught, fault-said}
-use Rattle.meaning.proofs.Rows.{transition-decides, unknown-decides, no-place-decides, no-transition-decides, lone-place-decides, lone-transition-decides, unsettled-decides}
+use Rattle.meaning.proofs.Rows.{transition-decides, unknown-decides, no-place-decides, no-transition-decides, place-isolated-decides, transition-isolated-decides, unsettled-decides}
 use Rattle.meaning.proofs.Decide.{All, Clean, Refuses}
 use Rattle.meaning.proofs.Walk.{Caught, Speaks, Refuses-below, all-refuse, caught-here, caught-once, skip, not-lower}
 
@@ -36,14 +36,14 @@ unknowns tb = check-of (tb .records) (unknown tb) (λ r. refused 5 r)
 abbrev empties : Table → Check
 empties tb = check-of 2 (empty tb) (λ k. refused 6 k)
 
-abbrev lonely : Table → Check
-lonely tb = check-of 192 (isolated tb) (λ k. refused 7 k)
+abbrev isolated-check : Table → Check
+isolated-check tb = check-of 192 (isolated tb) (λ k. refused 7 k)
 
 abbrev circles : Table → Check
 circles tb = check-of 64 (circle tb) (λ t. refused 8 t)
 
 abbrev pairs : Table → Check
-pairs tb = check-of 64 (clashes tb) (λ i. refused 9 (64 * i + first 64 (unsettled tb i)))
+pairs tb = check-of 64 (in-unsettled tb) (λ i. refused 9 (64 * i + first 64 (unsettled tb i)))
 
 -- What a table of which 2, 3 and 4 do not speak shows.
 all-shown : (tb : Table) → Clean (faults tb) → (r : ℕ) → r < tb .records → Shows tb r
@@ -86,11 +86,11 @@ isolated-said : (bs : List ℕ) (k : ℕ) → isolated (table bs) k ≡ true →
 isolated-said bs =
     place-or-transition (λ k. isolated (table bs) k ≡ true → Table-says bs 7 k)
     (λ p l e.
-    let w = lone-place-decides (table bs) p .0 (sym (isolated-place (table bs) p l) ∙ e) in
-    Table-says.lone-place (w .0) (w .1))
+    let w = place-isolated-decides (table bs) p .0 (sym (isolated-place (table bs) p l) ∙ e) in
+    Table-says.isolated-place (w .0) (w .1))
     (λ t e.
-    let w = lone-transition-decides (table bs) t .0 (sym (isolated-transition (table bs) t) ∙ e) in
-    Table-says.lone-transition t (w .0) (w .1))
+    let w = transition-isolated-decides (table bs) t .0 (sym (isolated-transition (table bs) t) ∙ e) in
+    Table-says.isolated-transition t (w .0) (w .1))
 
 -- 8: who stands above another is a transition's number.
 above-bound : (tb : Table) → ((r : ℕ) → r < tb .records → Shows tb r) → {u t : ℕ} → Above tb u t → (u ≤ 63) × (t ≤ 63)
@@ -130,7 +130,7 @@ abbrev from-8 : Table → List Check
 from-8 tb = circles tb ∷ from-9 tb
 
 abbrev from-7 : Table → List Check
-from-7 tb = lonely tb ∷ from-8 tb
+from-7 tb = isolated-check tb ∷ from-8 tb
 
 abbrev from-6 : Table → List Check
 from-6 tb = empties tb ∷ from-7 tb
@@ -167,7 +167,7 @@ past-6 bs l g = past-5 bs (omega arith) (λ a b. skip (empties (table bs)) _ (λ
 
 past-7 : (bs : List ℕ) {n w : ℕ} → 7 < stage n → Told (table bs) (from-8 (table bs)) n w → Caught n w (table-checks bs)
 unfolding stage
-past-7 bs l g = past-6 bs (omega arith) (λ a b. skip (lonely (table bs)) _ (λ j e. l) (λ c. g a b))
+past-7 bs l g = past-6 bs (omega arith) (λ a b. skip (isolated-check (table bs)) _ (λ j e. l) (λ c. g a b))
 
 past-8 : (bs : List ℕ) {n w : ℕ} → 8 < stage n → Told (table bs) (from-9 (table bs)) n w → Caught n w (table-checks bs)
 unfolding stage
@@ -182,28 +182,28 @@ arc-transition tb known a =
     (decided (transition-decides tb (tb .two (a .0))))
 
 -- 7 is caught: a sound table's places are below 128, its transitions below 64.
-lone-place-caught : (tb : Table) (p : ℕ) (cs : List Check) → Clean (faults tb) → Place tb p
+place-isolated-caught : (tb : Table) (p : ℕ) (cs : List Check) → Clean (faults tb) → Place tb p
     → ((s t w : ℕ) → ¬ Arc tb s p t w)
-    → Caught 7 p (lonely tb ∷ cs)
-lone-place-caught tb p cs clean a h =
+    → Caught 7 p (isolated-check tb ∷ cs)
+place-isolated-caught tb p cs clean a h =
     let l : p < 128 = omega (arith, shown-place (of-kind tb (a .0) 1 (all-shown tb clean (a .0) (a .1)) (a .2)) .0, a .3) in
     let m : p < 192 = omega arith in
-    caught-here 192 (isolated tb) 7 p cs m (isolated-place tb p l ∙ lone-place-decides tb p .1 (a, h))
+    caught-here 192 (isolated tb) 7 p cs m (isolated-place tb p l ∙ place-isolated-decides tb p .1 (a, h))
 
-lone-transition-caught : (tb : Table) (t : ℕ) (cs : List Check) → Clean (faults tb) → Transition tb t
-    → ((s p w : ℕ) → ¬ Arc tb s p t w) → Caught 7 (128 + t) (lonely tb ∷ cs)
-lone-transition-caught tb t cs clean a h =
+transition-isolated-caught : (tb : Table) (t : ℕ) (cs : List Check) → Clean (faults tb) → Transition tb t
+    → ((s p w : ℕ) → ¬ Arc tb s p t w) → Caught 7 (128 + t) (isolated-check tb ∷ cs)
+transition-isolated-caught tb t cs clean a h =
     let m : 128 + t < 192 = omega (arith, shown-transition (of-kind tb (a .0) 2 (all-shown tb clean (a .0) (a .1)) (a .2)) .0, a .3) in
-    caught-here 192 (isolated tb) 7 (128 + t) cs m (isolated-transition tb t ∙ lone-transition-decides tb t .1 (a, h))
+    caught-here 192 (isolated tb) 7 (128 + t) cs m (isolated-transition tb t ∙ transition-isolated-decides tb t .1 (a, h))
 
 -- 8 and 9 are said.
 circle-said : (bs : List ℕ) (t : ℕ) → circle (table bs) t ≡ true → Table-says bs 8 t
 unfolding circle
 circle-said bs t e = Table-says.circle (closed (table bs) t t .0 e)
 
-pair-said : (bs : List ℕ) (i : ℕ) → Clean (faults (table bs)) → clashes (table bs) i ≡ true
+pair-said : (bs : List ℕ) (i : ℕ) → Clean (faults (table bs)) → in-unsettled (table bs) i ≡ true
     → Table-says bs 9 (64 * i + first 64 (unsettled (table bs) i))
-unfolding clashes
+unfolding in-unsettled
 pair-said bs i clean e =
     let w = some-elim 64 (unsettled (table bs) i) (and-right (transition (table bs) i) (some 64 (unsettled (table bs) i)) e) in
     let j = first 64 (unsettled (table bs) i) in
@@ -215,17 +215,17 @@ pair-said bs i clean e =
 pair-caught : (tb : Table) (i j : ℕ) → Clean (faults tb) → Clean (unknowns tb) → i < j → j < 64 → Conflict tb i j
     → ¬ Settled tb i j
     → Caught 9 (64 * i + j) (pairs tb ∷ [])
-unfolding clashes
+unfolding in-unsettled
 pair-caught tb i j clean known l m h k =
     Caught.here i in-range
-    (and-true (transition-decides tb i .1 declared) (some-intro 64 (unsettled tb i) j m loose))
+    (and-true (transition-decides tb i .1 declared) (some-intro 64 (unsettled tb i) j m pair))
     (λ g q b. not-lower refl (lowest g q) (le-refl 9))
   where
     in-range : i < 64
     in-range = omega arith
 
-    loose : unsettled tb i j ≡ true
-    loose = unsettled-decides tb i j (all-shown tb clean) .1 (l, (h, k))
+    pair : unsettled tb i j ≡ true
+    pair = unsettled-decides tb i j (all-shown tb clean) .1 (l, (h, k))
 
     declared : Transition tb i
     declared = arc-transition tb known (h .3)
@@ -235,7 +235,7 @@ pair-caught tb i j clean known l m h k =
         ⊎-elim
         (λ (e : g ≡ i).
         subst (λ (x : ℕ). 64 * x + first 64 (unsettled tb x) ≤ 64 * i + j) (sym e)
-        (omega (arith, first-some 64 (unsettled tb i) j m loose)))
+        (omega (arith, first-some 64 (unsettled tb i) j m pair)))
         (λ (b : g < i). omega (arith, first-le 64 (unsettled tb g)))
         (eq-or-lt-of-le q)
 
@@ -279,8 +279,8 @@ table-catches bs n w (Table-says.no-place h) =
     past-5 bs (omega arith) (λ a b. caught-here _ _ 6 0 _ (omega arith) (no-place-decides (table bs) .1 h))
 table-catches bs n w (Table-says.no-transition h) =
     past-5 bs (omega arith) (λ a b. caught-here _ _ 6 1 _ (omega arith) (no-transition-decides (table bs) .1 h))
-table-catches bs n w (Table-says.lone-place {p} l h) = past-6 bs (omega arith) (λ a b. lone-place-caught (table bs) p _ a l h)
-table-catches bs n w (Table-says.lone-transition t l h) = past-6 bs (omega arith) (λ a b. lone-transition-caught (table bs) t _ a l h)
+table-catches bs n w (Table-says.isolated-place {p} l h) = past-6 bs (omega arith) (λ a b. place-isolated-caught (table bs) p _ a l h)
+table-catches bs n w (Table-says.isolated-transition t l h) = past-6 bs (omega arith) (λ a b. transition-isolated-caught (table bs) t _ a l h)
 table-catches bs n w (Table-says.circle {t} h) =
     past-7 bs (omega arith)
     (λ a b.

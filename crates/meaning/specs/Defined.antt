@@ -139,15 +139,15 @@ settled tb i j = above tb i j || above tb j i || complementary tb i j || inhibit
 -- A pair i < j in conflict that is not settled.
 unfoldable pub unsettled : Table → ℕ → ℕ → Bool
 unsettled tb i j =
-    let loose = not (settled tb i j) in
-    let clash = conflict tb i j && loose in
-    ltb i j && clash
+    let free = not (settled tb i j) in
+    let bad = conflict tb i j && free in
+    ltb i j && bad
 
 -- 9 conflict: transition i stands in an unsettled pair i < j. The least pair has the least such i and then the
 -- least such j. That i is declared is asked first only to compute less: where 5 found nothing, both transitions
 -- of a pair in conflict are declared.
-unfoldable pub clashes : Table → ℕ → Bool
-clashes tb i =
+unfoldable pub in-unsettled : Table → ℕ → Bool
+in-unsettled tb i =
     let with-some = some 64 (unsettled tb i) in
     transition tb i && with-some
 
@@ -162,7 +162,7 @@ table-checks bs =
     ∷ check-of 2 (empty tb) (λ k. refused 6 k)
     ∷ check-of 192 (isolated tb) (λ k. refused 7 k)
     ∷ check-of 64 (circle tb) (λ t. refused 8 t)
-    ∷ check-of 64 (clashes tb) (λ i. refused 9 (64 * i + first 64 (unsettled tb i)))
+    ∷ check-of 64 (in-unsettled tb) (λ i. refused 9 (64 * i + first 64 (unsettled tb i)))
     ∷ []
 
 -- A table is well defined when none of 1 to 9 applies (definition 14, read pair by pair as the page decides).

@@ -111,8 +111,8 @@ pub data Table-says (bs : List ℕ) : ℕ → ℕ → Type 0 where
   unknown : {r : ℕ} → r < table bs .records → Names-unknown (table bs) r → Table-says bs 5 r
   no-place : ((p : ℕ) → ¬ Place (table bs) p) → Table-says bs 6 0
   no-transition : ((t : ℕ) → ¬ Transition (table bs) t) → Table-says bs 6 1
-  lone-place : {p : ℕ} → Place (table bs) p → ((s t w : ℕ) → ¬ Arc (table bs) s p t w) → Table-says bs 7 p
-  lone-transition : (t : ℕ) → Transition (table bs) t → ((s p w : ℕ) → ¬ Arc (table bs) s p t w)
+  isolated-place : {p : ℕ} → Place (table bs) p → ((s t w : ℕ) → ¬ Arc (table bs) s p t w) → Table-says bs 7 p
+  isolated-transition : (t : ℕ) → Transition (table bs) t → ((s p w : ℕ) → ¬ Arc (table bs) s p t w)
       → Table-says bs 7 (128 + t)
   circle : {t : ℕ} → Above (table bs) t t → Table-says bs 8 t
   conflict : (i j : ℕ) → i < j → j < 64 → Conflict (table bs) i j → ¬ Settled (table bs) i j

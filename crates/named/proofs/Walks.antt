@@ -1,7 +1,8 @@
--- A walk over the places and the transitions: nobody before the one at hand is lost, and the set has those that are named so far.
-use mathlib.Core.Bool.{Bool, true, false, _&&_, _||_, not, or-false, or-assoc, and-true}
+-- A walk over the places and the transitions: nobody before the one at hand is lost, and the set has those that are
+-- named so far.
+use mathlib.Core.Bool.{Bool, true, false, _&&_, _||_, not, or-assoc}
 use mathlib.Core.List.{List}
-use mathlib.Core.Path.{_≡_, refl, sym, ap, ap₂, _∙_}
+use mathlib.Core.Path.{_≡_, refl, sym, ap, _∙_}
 use Prim.Native.Nat.{ℕ, _+_, _-_, _^_, _≤_, _<_}
 use native.Mathlib.Omega.{arith}
 use native.Mathlib.Numerals.{add-one}
@@ -14,26 +15,31 @@ use Rattle.meaning.proofs.Below.{some-same, some-intro, some-elim, first-is, fi
 use Rattle.sets.proofs.Bits.{bit-zero}
 use Rattle.sets.proofs.Members.{lowest-in}
 use Rattle.rows.specs.declared.Declared.{Declared}
-use Rattle.rows.specs.Rows.{inputs, givers, actions, below, looks, functions, has}
+use Rattle.rows.specs.Rows.{inputs, givers, actions, below, has}
 use Rattle.named.specs.Named.{arc-bit, place-named, own-named, named-by, Quiet-from, isolated-in}
 
-module _ (rows : List ℕ) (p : ℕ) (arcs : ℕ) (arcs-is : (t : ℕ) → bit arcs t ≡ (bit (inputs rows p) t || bit (givers rows p) t)) where
+module _ (rows : List ℕ) (p : ℕ) (arcs : ℕ) (arcs-is : (t : ℕ)
+    → bit arcs t ≡ (bit (inputs rows p) t || bit (givers rows p) t)) where
   -- The arcs of a place, and what names it.
   pub arcs-some : some 64 (bit arcs) ≡ some 64 (arc-bit rows p)
   arcs-some = some-same 64 (bit arcs) (arc-bit rows p) (λ t _. arcs-is t)
 
-  pub named-some : (by : ℕ) → ((t : ℕ) → bit by t ≡ (bit arcs t || bit (actions rows p) t)) → some 64 (bit by) ≡ place-named rows p
+  pub named-some : (by : ℕ) → ((t : ℕ) → bit by t ≡ (bit arcs t || bit (actions rows p) t))
+      → some 64 (bit by) ≡ place-named rows p
   named-some by by-is = some-same 64 (bit by) _ (λ t _. by-is t ∙ rw (arcs-is t))
 
   -- The transitions of the arcs of one more place.
-  pub more-arcs : (old new : ℕ) → ((t : ℕ) → bit old t ≡ some p (λ q. arc-bit rows q t)) → ((t : ℕ) → bit new t ≡ (bit old t || bit arcs t)) → (t : ℕ)
+  pub more-arcs : (old new : ℕ) → ((t : ℕ) → bit old t ≡ some p (λ q. arc-bit rows q t))
+      → ((t : ℕ) → bit new t ≡ (bit old t || bit arcs t)) → (t : ℕ)
       → bit new t ≡ some (p + 1) (λ q. arc-bit rows q t)
   unfolding some
   more-arcs old new before gains t = gains t ∙ rw (before t, arcs-is t, add-one p)
 
 -- One more transition that is named, by itself or from above.
-pub more-named : (rows : List ℕ) (u t : ℕ) (a : Bool) {old with-own new : Bool} (under own : Bool) → old ≡ (a || some u (named-by rows t)) → own ≡ own-named rows u
-    → under ≡ bit (below rows u) t → with-own ≡ (old || (eqb u t && own)) → new ≡ (with-own || under) → new ≡ (a || some (u + 1) (named-by rows t))
+pub more-named : (rows : List ℕ) (u t : ℕ) (a : Bool) {old with-own new : Bool} (under own : Bool)
+    → old ≡ (a || some u (named-by rows t)) → own ≡ own-named rows u
+    → under ≡ bit (below rows u) t → with-own ≡ (old || (eqb u t && own)) → new ≡ (with-own || under)
+    → new ≡ (a || some (u + 1) (named-by rows t))
 unfolding some
 more-named rows u t a under own before own-is under-is joins gains =
     gains
@@ -42,14 +48,18 @@ more-named rows u t a under own before own-is under-is joins gains =
     ∙ or-assoc a (some u (named-by rows t)) ((eqb u t && own-named rows u) || bit (below rows u) t))
 
 -- Candidate p below 128 is a place.
-pub isolated-place : (rows : List ℕ) (k : Declared) (p : ℕ) → p < 128 → (has k p && not (some 64 (arc-bit rows p))) ≡ isolated-in rows k p
+pub isolated-place : (rows : List ℕ) (k : Declared) (p : ℕ) → p < 128
+    → (has k p && not (some 64 (arc-bit rows p))) ≡ isolated-in rows k p
 unfolding isolated-in
 isolated-place rows k p h = rw (lt-ltb p 128 h)
 
--- No place before p is isolated, and from p on there is none; the set `alone` has the declared transitions without an arc.
+-- No place before p is isolated, and from p on there is none; the set `alone` has the declared transitions without an
+-- arc.
 module _ (rows : List ℕ) (k : Declared) {n : ℕ} (p arced : ℕ) (quiet : Quiet-from n rows k) (past : n ≤ p)
-    (before : (j : ℕ) → j < p → isolated-in rows k j ≡ false) (arced-is : (t : ℕ) → bit arced t ≡ some p (λ q. arc-bit rows q t))
-    (alone : ℕ) (low : alone < 2 ^ 64) (alone-is : (t : ℕ) → bit alone t ≡ (bit (k .transitions) t && not (bit arced t))) where
+    (before : (j : ℕ) → j < p → isolated-in rows k j ≡ false)
+    (arced-is : (t : ℕ) → bit arced t ≡ some p (λ q. arc-bit rows q t))
+    (alone : ℕ) (low : alone < 2 ^ 64) (alone-is : (t : ℕ)
+    → bit alone t ≡ (bit (k .transitions) t && not (bit arced t))) where
   no-place : (j : ℕ) → j < 128 → isolated-in rows k j ≡ false
   no-place j h = go (ltb j p) refl
     where
@@ -62,7 +72,8 @@ module _ (rows : List ℕ) (k : Declared) {n : ℕ} (p arced : ℕ) (quiet : Qui
   all-arcs h t l =
       arced-is t
       ∙ same-test (some p (λ q. arc-bit rows q t)) (some 128 (λ q. arc-bit rows q t))
-      (λ e. let w = some-elim p (λ q. arc-bit rows q t) e in some-intro 128 (λ q. arc-bit rows q t) (w .0) (omega (arith, w .1, h)) (w .2))
+      (λ e. let w = some-elim p (λ q. arc-bit rows q t) e in
+      some-intro 128 (λ q. arc-bit rows q t) (w .0) (omega (arith, w .1, h)) (w .2))
       (λ e.
       let w = some-elim 128 (λ q. arc-bit rows q t) e in
       let inside : w .0 < p = under (w .0) (w .1) (w .2) in
@@ -89,12 +100,15 @@ module _ (rows : List ℕ) (k : Declared) {n : ℕ} (p arced : ℕ) (quiet : Qui
       go j l true x = no-place j (ltb-true j 128 x)
       go j l false x =
           let split : j ≡ 128 + (j - 128) = omega (arith, ltb-false j 128 x) in
-          ap (isolated-in rows k) split ∙ isolated-is h (j - 128) (omega (arith, l, ltb-false j 128 x)) ∙ rw e (bit-zero (j - 128))
+          ap (isolated-in rows k) split ∙ isolated-is h (j - 128) (omega (arith, l, ltb-false j 128 x))
+          ∙ rw e (bit-zero (j - 128))
 
-  pub isolated-transition : p ≤ 128 → ¬ (alone ≡ 0) → (t : ℕ) → t ≡ first 64 (bit alone) → 128 + t ≡ first 192 (isolated-in rows k)
+  pub isolated-transition : p ≤ 128 → ¬ (alone ≡ 0) → (t : ℕ) → t ≡ first 64 (bit alone)
+      → 128 + t ≡ first 192 (isolated-in rows k)
   isolated-transition h e t is =
       let found = lowest-in alone t low e is in
-      sym (first-is 192 (isolated-in rows k) (128 + t) (omega (arith, found .0)) (isolated-is h t (found .0) ∙ found .1) (λ j l. go j l (ltb j 128) refl))
+      sym (first-is 192 (isolated-in rows k) (128 + t) (omega (arith, found .0))
+      (isolated-is h t (found .0) ∙ found .1) (λ j l. go j l (ltb j 128) refl))
     where
       go : (j : ℕ) → j < 128 + t → (b : Bool) → ltb j 128 ≡ b → isolated-in rows k j ≡ false
       go j l true x = no-place j (ltb-true j 128 x)

@@ -1,8 +1,8 @@
 -- Who is named, and who is isolated, by the rows and what is declared.
-use mathlib.Core.Bool.{Bool, true, false, cond, not, _&&_, _||_}
+use mathlib.Core.Bool.{Bool, false, cond, not, _&&_, _||_}
 use mathlib.Core.List.{List}
 use mathlib.Core.Path.{_≡_}
-use Prim.Native.Nat.{ℕ, _+_, _*_, _-_, _≤_, _<_}
+use Prim.Native.Nat.{ℕ, _-_, _≤_, _<_}
 use lib.Dec.{eqb, ltb}
 use Rattle.meaning.specs.Below.{some}
 use Rattle.meaning.specs.Bytes.{bit}
@@ -41,7 +41,8 @@ transition-named rows n t = some n (λ p. arc-bit rows p t) || some (transitions
 
 -- Some place or transition is named and not declared.
 unfoldable pub unknown-in : List ℕ → Declared → ℕ → Bool
-unknown-in rows k n = some n (lost-place rows k) || some 64 (λ t. transition-named rows n t && not (bit (k .transitions) t))
+unknown-in rows k n =
+    some n (lost-place rows k) || some 64 (λ t. transition-named rows n t && not (bit (k .transitions) t))
 
 -- A record of this kind with these bytes 1 and 2 names a place or a transition that is not declared.
 unfoldable pub unknown-by : Declared → ℕ → ℕ → ℕ → Bool

@@ -1,4 +1,5 @@
-// Whom the records name: a place or a transition that is not declared (answer 5), and one that is declared without an arc (answer 7).
+// Whom the records name: a place or a transition that is not declared (answer 5), and one that is declared without an
+// arc (answer 7).
 use records::Rec;
 use rows::ACTIONS;
 use rows::BELOW;
@@ -148,7 +149,8 @@ pub fn first_unknown(t: &[u8], k: Declared) -> usize
     count
 }
 
-// The first declared place with no arc, else 128 and the first declared transition with no arc, else 192. From n on there is neither an arc nor a place.
+// The first declared place with no arc, else 128 and the first declared transition with no arc, else 192. From n on
+// there is neither an arc nor a place.
 pub fn first_isolated(rows: &[u64], k: Declared, n: usize) -> usize
     requires { ⌜ Quiet-from n (now rows) k × (8 * n ≤ length (now rows)) ⌝ }
     ensures { λ r. ⌜ r ≡ first 192 (isolated-in (now (rows .entry)) k) ⌝ }

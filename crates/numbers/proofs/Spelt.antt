@@ -1,4 +1,5 @@
--- How bytes spell numbers: the eight bytes of a number are two halves, and word i of a list of bytes is the eight bytes from 8i on.
+-- How bytes spell numbers: the eight bytes of a number are two halves, and word i of a list of bytes is the eight
+-- bytes from 8i on.
 use mathlib.Core.List.{List, _∷_}
 use mathlib.Core.Path.{_≡_, refl, ap, _∙_}
 use Prim.Native.Nat.{ℕ, zero, suc, _+_, _*_, _≤_, _<_}
@@ -9,12 +10,6 @@ use lib.Seq.{drop-drop, drop-cons}
 use Rattle.meaning.specs.Bytes.{number}
 use Rattle.meaning.specs.Calls.{words-of}
 
--- The words are as many as are asked for.
-pub words-length : (n : ℕ) (ws : List ℕ) → length (words-of n ws) ≡ n
-unfolding words-of
-words-length zero ws = refl
-words-length (suc n) ws = ap suc (words-length n (drop 8 ws))
-
 -- From word i on: word i, then those from the next on.
 pub words-from : (n i : ℕ) (ws : List ℕ) → i < n
     → drop i (words-of n ws) ≡ number (take 8 (drop (8 * i) ws)) ∷ drop (suc i) (words-of n ws)
@@ -24,7 +19,8 @@ words-from (suc n) zero ws h = refl
 words-from (suc n) (suc i) ws h =
     let past : 8 + 8 * i ≡ 8 * suc i = omega arith in
     words-from n i (drop 8 ws) (le-of-suc-le-suc h)
-    ∙ ap (λ (l : List ℕ). number (take 8 l) ∷ drop (suc i) (words-of n (drop 8 ws))) (drop-drop (8 * i) 8 ws ∙ ap (λ (k : ℕ). drop k ws) past)
+    ∙ ap (λ (l : List ℕ). number (take 8 l) ∷ drop (suc i) (words-of n (drop 8 ws)))
+    (drop-drop (8 * i) 8 ws ∙ ap (λ (k : ℕ). drop k ws) past)
 
 -- The bytes from one on spell it and 256 times what those from the next on spell.
 pub spell : (n : ℕ) (bs : List ℕ) (at next : ℕ) → next ≡ suc at → at < length bs

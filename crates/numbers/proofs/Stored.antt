@@ -19,17 +19,26 @@ one-stored out at i rest h l =
     let place : at + (i + 1) ≡ suc (at + i) = omega arith in
     let left : 8 - i ≡ suc (8 - (i + 1)) = omega arith in
     let inside : at + i < length out = omega arith in
-    rw (place, left, take-suc-set out (at + i) (rest % 256) inside, drop-set-lt (at + 8) out (at + i) (rest % 256) (omega arith))
-    (ap (λ (r : List ℕ). r ++ drop (at + 8) out) (append-snoc (take (at + i) out) (rest % 256) (bytes (8 - (i + 1)) (rest / 256))))
+    rw (
+      place,
+      left,
+      take-suc-set out (at + i) (rest % 256) inside,
+      drop-set-lt (at + 8) out (at + i) (rest % 256) (omega arith),
+    )
+    (ap (λ (r : List ℕ). r ++ drop (at + 8) out) (append-snoc (take (at + i) out) (rest % 256)
+    (bytes (8 - (i + 1)) (rest / 256))))
 
 -- With all eight stored the list is what it was to be at first.
 pub all-stored : (l out : List ℕ) (at i rest x : ℕ) → i ≡ 8 → to-be out at i rest ≡ to-be l at 0 x
     → out ≡ take at l ++ bytes 8 x ++ drop (at + 8) l
 unfolding bytes
 all-stored l out at i rest x e f =
-    let end : out ≡ to-be out at 8 rest = sym (ap (λ (k : List ℕ). k ++ drop (at + 8) out) (append-nil (take (at + 8) out)) ∙ take-append-drop (at + 8) out) in
+    let end : out ≡ to-be out at 8 rest =
+    sym (ap (λ (k : List ℕ). k ++ drop (at + 8) out) (append-nil (take (at + 8) out))
+    ∙ take-append-drop (at + 8) out) in
     let begin : at + 0 ≡ at = omega arith in
-    end ∙ ap (λ (n : ℕ). to-be out at n rest) (sym e) ∙ f ∙ ap (λ (n : ℕ). take n l ++ bytes 8 x ++ drop (at + 8) l) begin
+    end ∙ ap (λ (n : ℕ). to-be out at n rest) (sym e) ∙ f
+    ∙ ap (λ (n : ℕ). take n l ++ bytes 8 x ++ drop (at + 8) l) begin
 
 -- Eight bytes are eight.
 pub eight : (x : ℕ) → length (bytes 8 x) ≡ 8
@@ -37,15 +46,18 @@ unfolding bytes
 eight x = refl
 
 -- A part stored behind the part before it: the two are one part.
-pub joined : (l l₁ l₂ xs ys : List ℕ) (at i j : ℕ) → l₁ ≡ take at l ++ xs ++ drop i l → l₂ ≡ take i l₁ ++ ys ++ drop j l₁
+pub joined : (l l₁ l₂ xs ys : List ℕ) (at i j : ℕ) → l₁ ≡ take at l ++ xs ++ drop i l
+    → l₂ ≡ take i l₁ ++ ys ++ drop j l₁
     → at + length xs ≡ i → i ≤ j → at ≤ length l → l₂ ≡ take at l ++ (xs ++ ys) ++ drop j l
 joined l l₁ l₂ xs ys at i j e f n h r =
     let front : length (take at l ++ xs) ≡ i = length-append (take at l) xs ∙ rw (length-take-le at l r) n in
     let before : take i l₁ ≡ take at l ++ xs = ap (take i) e ∙ take-at (take at l ++ xs) (drop i l) i front in
     let behind : drop i l₁ ≡ drop i l = ap (drop i) e ∙ drop-at (take at l ++ xs) (drop i l) i front in
     let past : i + (j - i) ≡ j = omega arith in
-    let rest : (k : List ℕ) → drop j k ≡ drop (j - i) (drop i k) = λ k. ap (λ (n : ℕ). drop n k) (sym past) ∙ sym (drop-drop (j - i) i k) in
-    f ∙ rw (before, rest l₁, behind, rest l) (ap (λ (k : List ℕ). k ++ drop (j - i) (drop i l)) (append-assoc (take at l) xs ys))
+    let rest : (k : List ℕ) → drop j k ≡ drop (j - i) (drop i k) =
+    λ k. ap (λ (n : ℕ). drop n k) (sym past) ∙ sym (drop-drop (j - i) i k) in
+    f ∙ rw (before, rest l₁, behind, rest l) (ap (λ (k : List ℕ). k ++ drop (j - i) (drop i l))
+    (append-assoc (take at l) xs ys))
 
 -- Three numbers stored one behind the other.
 pub three : (l l₁ l₂ l₃ : List ℕ) (at x y z : ℕ) → l₁ ≡ take at l ++ bytes 8 x ++ drop (at + 8) l
@@ -55,6 +67,10 @@ pub three : (l l₁ l₂ l₃ : List ℕ) (at x y z : ℕ) → l₁ ≡ take at 
 three l l₁ l₂ l₃ at x y z e f g h =
     let second : at + 8 + 8 ≡ at + 16 = omega arith in
     let third : at + 16 + 8 ≡ at + 24 = omega arith in
-    let two = rw second at (joined l l₁ l₂ (bytes 8 x) (bytes 8 y) at (at + 8) (at + 8 + 8) e f (rw (eight x)) (omega arith) (omega arith)) in
-    let long : at + length (bytes 8 x ++ bytes 8 y) ≡ at + 16 = rw (length-append (bytes 8 x) (bytes 8 y), eight x, eight y) in
-    rw third at (joined l l₂ l₃ (bytes 8 x ++ bytes 8 y) (bytes 8 z) at (at + 16) (at + 16 + 8) two g long (omega arith) (omega arith))
+    let two =
+    rw second at (joined l l₁ l₂ (bytes 8 x) (bytes 8 y) at (at + 8) (at + 8 + 8) e f (rw (eight x)) (omega arith)
+    (omega arith)) in
+    let long : at + length (bytes 8 x ++ bytes 8 y) ≡ at + 16 =
+    rw (length-append (bytes 8 x) (bytes 8 y), eight x, eight y) in
+    rw third at (joined l l₂ l₃ (bytes 8 x ++ bytes 8 y) (bytes 8 z) at (at + 16) (at + 16 + 8) two g long
+    (omega arith) (omega arith))

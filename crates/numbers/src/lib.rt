@@ -1,9 +1,31 @@
-// Little-endian numbers in lent bytes: read and stored, the lowest byte first.
+// Numbers of more bytes: a narrow one made wide, and little-endian ones in lent bytes, read and stored, the lowest byte
+// first.
 ghost use mathlib.Core.List.{_++_};
 ghost use mathlib.Core.Path.{_≡_};
 ghost use Prim.Native.Nat.{_+_, _*_, _/_, _%_, _≤_};
 ghost use lib.ListN.{length, getD, take, drop, set};
 ghost use Rattle.meaning.specs.Bytes.{number, bytes};
+
+// A number of one byte as one of two.
+pub fn half(x: u8) -> u16
+    ensures { λ r. ⌜ r ≡ x ⌝ }
+{
+    x as u16
+}
+
+// A number of two bytes as one of four.
+pub fn wide(x: u16) -> u32
+    ensures { λ r. ⌜ (r ≡ x) × (r ≤ 65535) ⌝ }
+{
+    x as u32
+}
+
+// A number of two bytes as one that counts.
+pub fn count(x: u16) -> usize
+    ensures { λ r. ⌜ r ≡ x ⌝ }
+{
+    x as usize
+}
 
 // Two bytes as a number, the lower first.
 fn pair(low: u8, high: u8) -> u16

@@ -1,4 +1,5 @@
--- A record's columns are the bytes from 8r on, since the table is cut into pieces of eight; past the end there is no piece and all is 0.
+-- A record's columns are the bytes from 8r on, since the table is cut into pieces of eight; past the end there is no
+-- piece and all is 0.
 use mathlib.Core.List.{List, []}
 use mathlib.Core.Path.{_≡_, refl, sym, ap, ap₂, _∙_}
 use Prim.Native.Nat.{ℕ, zero, suc, _+_, _*_, _/_, _≤_, _<_}
@@ -25,8 +26,8 @@ pub inside : (bs : List ℕ) (r : ℕ) → r < length bs / 8
       one = getD bs (8 * r + 1) 0;
       two = getD bs (8 * r + 2) 0;
       sort = getD bs (8 * r + 3) 0;
-      four = getD bs (8 * r + 4) 0 + 256 * getD bs (8 * r + 5) 0;
-      six = getD bs (8 * r + 6) 0 + 256 * getD bs (8 * r + 7) 0;
+      four = getD bs (8 * r + 4) 0 + 256 * getD bs (8 * r + 4 + 1) 0;
+      six = getD bs (8 * r + 6) 0 + 256 * getD bs (8 * r + 6 + 1) 0;
     })
 unfolding table
 inside bs r h =
@@ -35,12 +36,17 @@ inside bs r h =
       one = byte 1 (omega arith);
       two = byte 2 (omega arith);
       sort = byte 3 (omega arith);
-      four = ap₂ (λ (a b : ℕ). a + 256 * b) (byte 4 (omega arith)) (byte 5 (omega arith));
-      six = ap₂ (λ (a b : ℕ). a + 256 * b) (byte 6 (omega arith)) (byte 7 (omega arith));
+      four = ap₂ (λ (a b : ℕ). a + 256 * b) (byte 4 (omega arith)) (next 4 (omega arith));
+      six = ap₂ (λ (a b : ℕ). a + 256 * b) (byte 6 (omega arith)) (next 6 (omega arith));
     }
   where
     byte : (k : ℕ) → k < 8 → getD bs (8 * r + k) 0 ≡ getD (getD (cut 8 (length bs / 8) bs) r []) k 0
     byte k l = sym (cut-read 8 (length bs / 8) r k bs h l)
+
+    next : (k : ℕ) → suc k < 8 → getD bs (8 * r + k + 1) 0 ≡ getD (getD (cut 8 (length bs / 8) bs) r []) (suc k) 0
+    next k l =
+        let same : 8 * r + k + 1 ≡ 8 * r + suc k = omega arith in
+        ap (λ (i : ℕ). getD bs i 0) same ∙ byte (suc k) l
 
 -- Past its end: zeros.
 pub outside : (bs : List ℕ) (r : ℕ) → length bs / 8 ≤ r

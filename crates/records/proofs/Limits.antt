@@ -45,7 +45,8 @@ no-sort (suc (suc zero)) a b h i j = absurd (j refl)
 no-sort (suc (suc (suc s))) a b h i j = refl
 
 -- What the two tests of a record say gives its number.
-pub verdict : (x : Rec) (k f : Bool) → bad-kind (alone x) 0 ≡ k → bad-field (alone x) 0 ≡ f → cond k 2 (cond f 3 0) ≡ fault-of x
+pub verdict : (x : Rec) (k f : Bool) → bad-kind (alone x) 0 ≡ k → bad-field (alone x) 0 ≡ f
+    → cond k 2 (cond f 3 0) ≡ fault-of x
 unfolding fault-of
 verdict x k f p q = rw (p, q)
 
@@ -62,7 +63,8 @@ module _ (x : Rec) (w : ℕ) (e : w ≡ x .kind) where
 
   -- And so are its other columns, which with the test of its values is the test of its fields.
   pub fields-tested : (v : Bool)
-      → v ≡ ((eqb (x .kind) 3 && eqb (x .four) 0) || (eqb (x .kind) 2 && not (interval-of (x .sort) (x .four) (x .six))))
+      → v ≡ ((eqb (x .kind) 3 && eqb (x .four) 0)
+      || (eqb (x .kind) 2 && not (interval-of (x .sort) (x .four) (x .six))))
       → (o : Bool)
       → o ≡ exceeds (row (limit (w - 1) 0) (limit (w - 1) 1) (limit (w - 1) 2) (limit (w - 1) 3) (limit (w - 1) 4)) x
       → bad-field (alone x) 0 ≡ (o || v)

@@ -36,7 +36,7 @@ kind-rows = map (λ r. r .one ∷ r .two ∷ r .sort ∷ r .four ∷ r .six ∷ 
 -- A transition of this sort may have this a and b.
 unfoldable pub interval-of : ℕ → ℕ → ℕ → Bool
 interval-of s a b =
-    interval (record { records = 1; kind = λ r. 2; one = λ r. 0; two = λ r. 0; sort = λ r. s; four = λ r. a; six = λ r. b }) 0
+    interval (alone (record { kind = 2; one = 0; two = 0; sort = s; four = a; six = b })) 0
 
 -- 2 or 3, the first that the record meets, or 0.
 unfoldable pub fault-of : Rec → ℕ

@@ -3,8 +3,6 @@ ghost use mathlib.Core.Path.{_≡_};
 ghost use mathlib.Core.Bool.{not, _&&_, _||_};
 ghost use lib.Dec.{ltb, eqb};
 ghost use lib.ListN.{getD};
-ghost use Prim.Native.Nat.{_+_, _*_, _-_, _≤_};
-ghost use mathlib.Core.List.{[]};
 ghost use Rattle.meaning.specs.Table.{table};
 ghost use Rattle.records.specs.Record.{Reads, kind-rows, interval-of, fault-of};
 
@@ -25,13 +23,6 @@ pub fn wide(x: u8) -> usize
     x as usize
 }
 
-// Two bytes as a number, the lower first.
-fn word(low: u8, high: u8) -> u16
-    ensures { λ r. ⌜ r ≡ low + 256 * high ⌝ }
-{
-    low as u16 + 256 * (high as u16)
-}
-
 // Record r of a table; past the last whole record all is 0.
 pub fn read(t: &[u8], r: usize) -> Rec
     ensures { λ x. ⌜ Reads (table (now (t .entry))) r x ⌝ }
@@ -43,8 +34,8 @@ pub fn read(t: &[u8], r: usize) -> Rec
             one: t[at + 1],
             two: t[at + 2],
             sort: t[at + 3],
-            four: word(t[at + 4], t[at + 5]),
-            six: word(t[at + 6], t[at + 7]),
+            four: numbers::two(t, at + 4),
+            six: numbers::two(t, at + 6),
         }
     } else {
         Rec {
@@ -58,7 +49,8 @@ pub fn read(t: &[u8], r: usize) -> Rec
     }
 }
 
-// The constant rows of kinds 1 to 7: the highest byte 1, byte 2, sort, bytes 4-5 and bytes 6-7, 0 where a column is not used.
+// The constant rows of kinds 1 to 7: the highest byte 1, byte 2, sort, bytes 4-5 and bytes 6-7, 0 where a column is not
+// used.
 const KINDS: [[u16; 5]; 7] = [
     [127, 0, 0, 65535, 0],
     [63, 0, 2, 65535, 65535],
@@ -74,13 +66,6 @@ pub fn kinds() -> [[u16; 5]; 7]
     ensures { λ r. ⌜ r ≡ kind-rows ⌝ }
 {
     KINDS
-}
-
-// A byte as a number of two bytes.
-fn half(x: u8) -> u16
-    ensures { λ r. ⌜ r ≡ x ⌝ }
-{
-    x as u16
 }
 
 // A transition's a and b are as its sort asks.
@@ -123,12 +108,13 @@ fn bad_value(kind: u8, sort: u8, a: u16, b: u16) -> bool
 
 // A column is above the highest value that the row of its kind allows.
 fn over(row: &[u16; 5], one: u8, two: u8, four: u16, six: u16) -> bool
-    ensures { λ r. ⌜ r ≡ (ltb (getD (now (row .entry)) 0 0) one || ltb (getD (now (row .entry)) 1 0) two || ltb (getD (now (row .entry)) 3 0) four || ltb (getD (now (row .entry)) 4 0) six) ⌝ }
+    ensures { λ r. ⌜ r ≡ (ltb (getD (now (row .entry)) 0 0) one || ltb (getD (now (row .entry)) 1 0) two
+        || ltb (getD (now (row .entry)) 3 0) four || ltb (getD (now (row .entry)) 4 0) six) ⌝ }
 {
-    if row[0] < half(one) {
+    if row[0] < numbers::half(one) {
         return true;
     }
-    if row[1] < half(two) {
+    if row[1] < numbers::half(two) {
         return true;
     }
     if row[3] < four {
@@ -137,24 +123,8 @@ fn over(row: &[u16; 5], one: u8, two: u8, four: u16, six: u16) -> bool
     row[4] < six
 }
 
-// 2 or 3, the first that a record meets whose kind exists, or 0: its sort exists, then each column is within the row of its kind.
-pub fn by_row(kind: u8, one: u8, two: u8, sort: u8, four: u16, six: u16, row: &[u16; 5]) -> u8
-    requires { ⌜ (1 ≤ kind) × (kind ≤ 7) × (now row ≡ getD kind-rows (kind - 1) []) ⌝ }
-    ensures { λ f. ⌜ f ≡ fault-of (record { kind = kind; one = one; two = two; sort = sort; four = four; six = six }) ⌝ }
-{
-    if row[2] < half(sort) {
-        return 2;
-    }
-    if over(row, one, two, four, six) {
-        return 3;
-    }
-    if bad_value(kind, sort, four, six) {
-        return 3;
-    }
-    0
-}
-
-// 2 or 3, the first that the record meets, or 0.
+// 2 or 3, the first that the record meets, or 0: its kind and its sort exist, then each column is within the row of its
+// kind.
 pub fn fault(x: Rec, kinds: &[[u16; 5]; 7]) -> u8
     requires { ⌜ now kinds ≡ kind-rows ⌝ }
     ensures { λ f. ⌜ f ≡ fault-of x ⌝ }
@@ -167,5 +137,18 @@ pub fn fault(x: Rec, kinds: &[[u16; 5]; 7]) -> u8
         return 2;
     }
     let k = wide(kind) - 1;
-    by_row(kind, x.one, x.two, x.sort, x.four, x.six, &kinds[k])
+    let row = &kinds[k];
+    let sort = x.sort;
+    let four = x.four;
+    let six = x.six;
+    if row[2] < numbers::half(sort) {
+        return 2;
+    }
+    if over(row, x.one, x.two, four, six) {
+        return 3;
+    }
+    if bad_value(kind, sort, four, six) {
+        return 3;
+    }
+    0
 }

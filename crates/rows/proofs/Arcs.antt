@@ -1,30 +1,30 @@
 -- What the filed rows of a table say of its arcs: each place and transition are joined by at most one input arc, which
 -- their cells hold.
-use mathlib.Core.Bool.{Bool, true, false, cond, _&&_}
+use mathlib.Core.Bool.{Bool, true, false, cond, not, _&&_}
 use mathlib.Core.List.{List}
 use mathlib.Core.Logic.{inl, inr, ⊎-elim}
 use mathlib.Core.Path.{_≡_, refl, sym, ap, _∙_}
 use Prim.Native.Nat.{ℕ, zero, suc, _≤_, _<_}
 use native.Mathlib.Nat.{not-suc-le-zero}
 use native.Mathlib.Omega.{arith}
-use lib.Dec.{eqb}
-use borrow.Author.Tests.{eqb-true, eq-eqb, ltb-true}
+use lib.Dec.{leb, ltb, eqb}
+use borrow.Author.Tests.{eqb-true, eq-eqb, ltb-true, ltb-false, lt-leb, le-leb}
 use Rattle.meaning.specs.Below.{some}
 use Rattle.meaning.specs.Bytes.{bit}
-use Rattle.meaning.specs.Answer.{Answer}
+use Rattle.meaning.specs.Answer.{Answer, accepted}
 use Rattle.meaning.specs.Table.{Table, table, is, basic}
-use Rattle.meaning.specs.Defined.{same}
+use Rattle.meaning.specs.Defined.{same, check}
 use Rattle.meaning.specs.Says.{Same}
 use Rattle.meaning.proofs.Bool.{not-both, and-left, and-right, and-true}
 use Rattle.meaning.proofs.Below.{last}
 use Rattle.meaning.proofs.Reflect.{refutes}
 use Rattle.meaning.proofs.Same.{same-decides, of-kind, shown-arc}
 use Rattle.meaning.proofs.Shows.{Shows}
-use Rattle.meaning.proofs.Sound.{check-sound}
+use Rattle.meaning.proofs.Sound.{Sound-table, check-sound}
 use Rattle.meaning.proofs.Walk.{compared}
 use Rattle.rows.specs.declared.Declared.{Declared}
 use Rattle.rows.specs.Rows.{inputs, takers, cell}
-use Rattle.rows.specs.Filed.{input, kept-in, joins, latest, Filed, Net-of}
+use Rattle.rows.specs.Filed.{input, kept-in, joins, latest, link, Filed, Net-of}
 
 -- Where one record alone passes, it is the last that does.
 pub latest-is : (n : ℕ) (p : ℕ → Bool) (f : ℕ → ℕ) (r : ℕ) → r < n → p r ≡ true → ((q : ℕ) → q < n → p q ≡ true → q ≡ r)
@@ -36,6 +36,24 @@ latest-is (suc n) p f r h e single = go (λ l. latest-is n p f r l e (λ q hq eq
     go : (r < n → latest n p f ≡ f r) → (b : Bool) → p n ≡ b → cond b (f n) (latest n p f) ≡ f r
     go below true q = ap f (single n (omega arith) q)
     go below false q = ⊎-elim (λ (z : r ≡ n). not-both e (ap p z ∙ q)) below (last h)
+
+-- A link is to a number below n.
+pub link-le : (n : ℕ) (p : ℕ → Bool) → link n p ≤ n
+unfolding link
+link-le zero p = omega arith
+link-le (suc n) p = go (p n) (link-le n p)
+  where
+    go : (b : Bool) → link n p ≤ n → cond b (suc n) (link n p) ≤ suc n
+    go true h = omega arith
+    go false h = omega arith
+
+-- At most is not above.
+pub at-most : (a b : ℕ) → leb a b ≡ not (ltb b a)
+at-most a b = go (ltb b a) refl
+  where
+    go : (x : Bool) → ltb b a ≡ x → leb a b ≡ not x
+    go true e = lt-leb a b (ltb-true b a e)
+    go false e = le-leb a b (ltb-false b a e)
 
 -- What the tests of a record say.
 pub input-test : (tb : Table) (r : ℕ) → input tb r ≡ true → (tb .kind r ≡ 3) × (tb .sort r < 3)
@@ -60,12 +78,16 @@ pub record Laid (tb : Table) (rows : List ℕ) (w s : List (List ℕ)) (heads po
   pub single : (s r : ℕ) → s < r → r < tb .records → same tb r s ≡ false
   pub filed : Filed tb (tb .records) rows w s heads posts times known
 
--- So are those of an accepted table.
+-- The records of an accepted table are sound.
+pub accepted-sound : (bs : List ℕ) → check bs ≡ accepted 0 → Sound-table (table bs)
+accepted-sound bs e = check-sound bs (ap (λ (a : Answer). a .number) e)
+
+-- All of them are laid.
 pub accepted-laid : {bs : List ℕ} {n : ℕ} {rows : List ℕ} {w s : List (List ℕ)} {heads posts times : List ℕ}
     {known : Declared}
     → Net-of bs n rows w s heads posts times known → Laid (table bs) rows w s heads posts times known
 accepted-laid {bs} net =
-    let sound = check-sound bs (ap (λ (a : Answer). a .number) (net .sound)) in
+    let sound = accepted-sound bs (net .sound) in
     record { shown = sound .shown; single = sound .single; filed = net .filed }
 
 module _ {tb : Table} {rows : List ℕ} {w s : List (List ℕ)} {heads posts times : List ℕ} {known : Declared}

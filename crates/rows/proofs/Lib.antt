@@ -3,3 +3,4 @@ pub mod Empty
 pub mod Shown
 pub mod Few
 pub mod Arcs
+pub mod Times

@@ -12,14 +12,14 @@ use Rattle.meaning.specs.Answer.{accepted}
 use Rattle.meaning.specs.Priority.{above}
 use Rattle.meaning.specs.Defined.{check}
 use Rattle.rows.specs.declared.Declared.{Declared}
-use Rattle.rows.specs.Extent.{extent-of}
 use Rattle.rows.specs.Rows.{row, below, cell, first-of, limit-of, last-of, has}
 
 -- Record k is an input arc.
 abbrev pub input : Table → ℕ → Bool
 input tb k = is tb 3 k && ltb (tb .sort k) 3
 
--- Record k is kept in row c: an input arc, a basic arc, a post arc, an action, a condition, one that is wanted true, a function, a priority.
+-- Record k is kept in row c: an input arc, a basic arc, a post arc, an action, a condition, one that is wanted true, a
+-- function, a priority.
 unfoldable pub kept-in : Table → ℕ → ℕ → Bool
 kept-in tb c k =
     getD
@@ -39,9 +39,11 @@ kept-in tb c k =
 abbrev pub joins : Table → ℕ → ℕ → ℕ → Bool
 joins tb i y k = eqb (tb .one k) i && eqb (tb .two k) y
 
--- Row c of each number has the records that are kept there, of the first r. The written pairs, row 7, are said apart: they are closed later.
+-- Row c of each number has the records that are kept there, of the first r. The written pairs, row 7, are said apart:
+-- they are closed later.
 pub record Rowed (tb : Table) (r : ℕ) (rows : List ℕ) : Type 0 where
-  pub holds : (c i y : ℕ) → c < 7 → i < 128 → y < 64 → bit (row rows c i) y ≡ some r (λ k. kept-in tb c k && joins tb i y k)
+  pub holds : (c i y : ℕ) → c < 7 → i < 128 → y < 64
+      → bit (row rows c i) y ≡ some r (λ k. kept-in tb c k && joins tb i y k)
 
 pub record Paired (tb : Table) (r : ℕ) (rows : List ℕ) : Type 0 where
   pub holds : (u t : ℕ) → u < 128 → t < 64 → bit (below rows u) t ≡ some r (λ k. is tb 5 k && joins tb u t k)
@@ -64,8 +66,8 @@ pub record Cells (tb : Table) (r : ℕ) (f : ℕ → ℕ) (m : List (List ℕ)) 
 abbrev pub declares : Table → ℕ → ℕ → ℕ → Bool
 declares tb kind x k = is tb kind k && eqb (tb .one k) x
 
--- How far the counter of the transition of record k rises: of sort 1 to b + 1, of sort 2 to a, of sort 0 it stays at 0. The last count in time: b, and of
--- sort 2 a number that stands for no end.
+-- How far the counter of the transition of record k rises: of sort 1 to b + 1, of sort 2 to a, of sort 0 it stays at 0.
+-- The last count in time: b, and of sort 2 a number that stands for no end.
 abbrev pub limit-in : Table → ℕ → ℕ
 limit-in tb k = cond (eqb (tb .sort k) 1) (suc (tb .six k)) (tb .four k)
 
@@ -92,7 +94,8 @@ link (suc n) p = cond (p n) (suc n) (link n p)
 abbrev pub post-of : Table → ℕ → ℕ → Bool
 post-of tb t k = post tb k && eqb (tb .two k) t
 
--- The post arcs of each transition in a chain: the last such record, and from each the one before it. Each has its place and its weight.
+-- The post arcs of each transition in a chain: the last such record, and from each the one before it. Each has its
+-- place and its weight.
 pub record Posted (tb : Table) (r : ℕ) (heads posts : List ℕ) : Type 0 where
   pub begins : (t : ℕ) → t < 64 → getD heads t 0 ≡ link r (post-of tb t)
   pub place : (k : ℕ) → k < r → post tb k ≡ true → getD posts (3 * k + 0) 0 ≡ tb .one k
@@ -114,7 +117,8 @@ pub record Sizes (n records : ℕ) (rows : List ℕ) (w s : List (List ℕ)) (he
   pub times-are : length times ≡ 192
 
 -- All that the first r records have put, the pairs apart.
-pub record Filed (tb : Table) (r : ℕ) (rows : List ℕ) (w s : List (List ℕ)) (heads posts times : List ℕ) (known : Declared) : Type 0 where
+pub record Filed (tb : Table) (r : ℕ) (rows : List ℕ) (w s : List (List ℕ)) (heads posts times : List ℕ)
+    (known : Declared) : Type 0 where
   pub rowed : Rowed tb r rows
   pub weights : Cells tb r (tb .four) w
   pub sorts : Cells tb r (tb .sort) s
@@ -124,7 +128,8 @@ pub record Filed (tb : Table) (r : ℕ) (rows : List ℕ) (w s : List (List ℕ)
   pub known-are : Known tb r known
 
 -- The rows are those of the accepted table that the bytes spell, the pairs closed; all its numbers are below n.
-pub record Net-of (bs : List ℕ) (n : ℕ) (rows : List ℕ) (w s : List (List ℕ)) (heads posts times : List ℕ) (known : Declared) : Type 0 where
+pub record Net-of (bs : List ℕ) (n : ℕ) (rows : List ℕ) (w s : List (List ℕ)) (heads posts times : List ℕ)
+    (known : Declared) : Type 0 where
   pub sound : check bs ≡ accepted 0
   pub filed : Filed (table bs) (table bs .records) rows w s heads posts times known
   pub closed : Closed (table bs) rows

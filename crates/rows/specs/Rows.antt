@@ -1,9 +1,10 @@
 -- The rows by their names, and the arrays beside them.
-use mathlib.Core.Bool.{Bool, cond}
+use mathlib.Core.Bool.{Bool, cond, _&&_}
 use mathlib.Core.List.{List, []}
 use Prim.Native.Nat.{ℕ, _+_, _*_, _-_}
-use lib.Dec.{ltb}
+use lib.Dec.{leb, ltb, eqb}
 use lib.ListN.{getD}
+use Rattle.meaning.specs.Below.{sum}
 use Rattle.meaning.specs.Bytes.{bit}
 use Rattle.rows.specs.declared.Declared.{Declared}
 
@@ -40,6 +41,15 @@ below rows t = row rows 7 t
 -- What stands at place p and transition t of an array of weights or of sorts.
 abbrev pub cell : List (List ℕ) → ℕ → ℕ → ℕ
 cell m p t = getD (getD m p []) t 0
+
+-- With so many tokens on a place an arc of this weight and sort stops its transition: an inhibitor arc (sort 2) that
+-- finds its weight, any other that does not.
+abbrev pub stops : ℕ → ℕ → ℕ → Bool
+stops weight sort tokens = cond (eqb sort 2) (leb weight tokens) (ltb tokens weight)
+
+-- What the members of a set take from place p.
+abbrev pub taken-at : ℕ → List ℕ → List (List ℕ) → ℕ → ℕ
+taken-at fired rows w p = sum 64 (λ t. cond (bit fired t && bit (takers rows p) t) (cell w p t) 0)
 
 -- Of transition t: the first count in time, how far its counter rises, the last count in time.
 abbrev pub first-of : List ℕ → ℕ → ℕ

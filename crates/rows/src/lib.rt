@@ -8,9 +8,9 @@ ghost use Rattle.meaning.specs.Table.{table};
 ghost use Rattle.rows.specs.Rows.{has, transitions-below};
 ghost use Rattle.rows.specs.Extent.{larger-of, extent-of};
 
-// Eight rows for each number, row c of number i at 8 * i + c. Of place p: the transitions with an input arc from it, those of them with a basic arc, the
-// transitions with a post arc to it, and its actions. Of transition t: the conditions it looks at, those of them it wants true, its functions, and the
-// transitions below it.
+// Eight rows for each number, row c of number i at 8 * i + c. Of place p: the transitions with an input arc from it,
+// those of them with a basic arc, the transitions with a post arc to it, and its actions. Of transition t: the
+// conditions it looks at, those of them it wants true, its functions, and the transitions below it.
 pub const INPUTS: usize = 0;
 
 pub const TAKERS: usize = 1;
@@ -27,15 +27,16 @@ pub const FUNCTIONS: usize = 6;
 
 pub const BELOW: usize = 7;
 
-// Three numbers for each transition, at 3 * t: the first count in time, how far its counter rises (0 if it is untimed), and the last count in time.
+// Three numbers for each transition, at 3 * t: the first count in time, how far its counter rises (0 if it is untimed),
+// and the last count in time.
 pub const FIRST: usize = 0;
 
 pub const LIMIT: usize = 1;
 
 pub const LAST: usize = 2;
 
-// Three numbers for each post arc, at three times its record: its place, its weight, and the next post arc of its transition (one more than its record, 0 for
-// none).
+// Three numbers for each post arc, at three times its record: its place, its weight, and the next post arc of its
+// transition (one more than its record, 0 for none).
 pub const PLACE: usize = 0;
 
 pub const WEIGHT: usize = 1;
@@ -83,7 +84,8 @@ pub fn with_place(k: Declared, p: usize) -> Declared
 // The same with transition t.
 pub fn with_transition(k: Declared, t: usize) -> Declared
     requires { ⌜ t < 64 ⌝ }
-    ensures { λ r. ⌜ ((u : ℕ) → bit (r .transitions) u ≡ (bit (k .transitions) u || eqb t u)) × ((q : ℕ) → has r q ≡ has k q) ⌝ }
+    ensures { λ r. ⌜ ((u : ℕ) → bit (r .transitions) u ≡ (bit (k .transitions) u || eqb t u))
+        × ((q : ℕ) → has r q ≡ has k q) ⌝ }
 {
     Declared {
         low: k.low,

@@ -1,13 +1,13 @@
--- A post arc begins the chain of its transition, which goes on with what it began with; any other record leaves the chains as they were.
-use mathlib.Core.Bool.{Bool, true, false, cond, _&&_}
+-- A post arc begins the chain of its transition, which goes on with what it began with; any other record leaves the
+-- chains as they were.
+use mathlib.Core.Bool.{Bool, true, false, cond}
 use mathlib.Core.List.{List}
 use mathlib.Core.Logic.{⊎-elim}
 use mathlib.Core.Path.{_≡_, refl, sym, ap, _∙_}
-use Prim.Native.Nat.{ℕ, zero, suc, _+_, _*_, _≤_, _<_}
-use native.Mathlib.Nat.{not-suc-le-zero}
+use Prim.Native.Nat.{ℕ, suc, _+_, _*_, _≤_, _<_}
 use native.Mathlib.Omega.{arith}
 use lib.Dec.{eqb}
-use lib.ListN.{length, getD, set, replicate, length-set, length-replicate, getD-replicate}
+use lib.ListN.{length, getD, set}
 use lib.Seq.{getD-set-same, getD-set-other}
 use borrow.Author.Tests.{eqb-true, eqb-false}
 use Rattle.meaning.specs.Table.{Table, post}
@@ -15,16 +15,6 @@ use Rattle.meaning.proofs.Bool.{not-both}
 use Rattle.meaning.proofs.Below.{last}
 use Rattle.scan.proofs.Entries.{with-entry, own-first, own-second, own-third, other-entry}
 use Rattle.rows.specs.Filed.{link, post-of, Posted, Descends}
-
--- A link is to a number below n.
-pub link-le : (n : ℕ) (p : ℕ → Bool) → link n p ≤ n
-unfolding link
-link-le zero p = omega arith
-link-le (suc n) p = go (p n) (link-le n p)
-  where
-    go : (b : Bool) → link n p ≤ n → cond b (suc n) (link n p) ≤ suc n
-    go true h = omega arith
-    go false h = omega arith
 
 -- A chain that goes down still does, with an entry of a place and a lower link.
 module _ (posts : List ℕ) (r a b c : ℕ) (there : 3 * r + 3 ≤ length posts) where
@@ -46,14 +36,18 @@ module _ {tb : Table} {r : ℕ} {heads posts : List ℕ} (g : Posted tb r heads 
   posted-same e =
       record {
         begins = λ t h. g .begins t h ∙ rw e;
-        place = λ k h p. ⊎-elim (λ (z : k ≡ r). not-both p (ap (post tb) z ∙ e)) (λ (l : k < r). g .place k l p) (last h);
-        weight = λ k h p. ⊎-elim (λ (z : k ≡ r). not-both p (ap (post tb) z ∙ e)) (λ (l : k < r). g .weight k l p) (last h);
-        goes-on = λ k h p. ⊎-elim (λ (z : k ≡ r). not-both p (ap (post tb) z ∙ e)) (λ (l : k < r). g .goes-on k l p) (last h);
+        place =
+            λ k h p. ⊎-elim (λ (z : k ≡ r). not-both p (ap (post tb) z ∙ e)) (λ (l : k < r). g .place k l p) (last h);
+        weight =
+            λ k h p. ⊎-elim (λ (z : k ≡ r). not-both p (ap (post tb) z ∙ e)) (λ (l : k < r). g .weight k l p) (last h);
+        goes-on =
+            λ k h p. ⊎-elim (λ (z : k ≡ r). not-both p (ap (post tb) z ∙ e)) (λ (l : k < r). g .goes-on k l p) (last h);
       }
 
   -- It is one.
   pub posted-more : post tb r ≡ true → tb .two r < 64 → length heads ≡ 64 → 3 * r + 3 ≤ length posts
-      → Posted tb (suc r) (set heads (tb .two r) (suc r)) (with-entry posts r (tb .one r) (tb .four r) (getD heads (tb .two r) 0))
+      → Posted tb (suc r) (set heads (tb .two r) (suc r))
+      (with-entry posts r (tb .one r) (tb .four r) (getD heads (tb .two r) 0))
   unfolding link
   posted-more e low size there =
       record {
@@ -67,7 +61,8 @@ module _ {tb : Table} {r : ℕ} {heads posts : List ℕ} (g : Posted tb r heads 
             (λ (l : k < r). other k 1 (omega arith) l ∙ g .weight k l p)
             (last h);
         goes-on = λ k h p.
-            ⊎-elim (λ (z : k ≡ r). rw z (own-third posts r (tb .one r) (tb .four r) next there ∙ g .begins (tb .two r) low))
+            ⊎-elim (λ (z : k ≡ r). rw z (own-third posts r (tb .one r) (tb .four r) next there
+            ∙ g .begins (tb .two r) low))
             (λ (l : k < r). other k 2 (omega arith) l ∙ g .goes-on k l p)
             (last h);
       }
@@ -75,10 +70,13 @@ module _ {tb : Table} {r : ℕ} {heads posts : List ℕ} (g : Posted tb r heads 
       next : ℕ
       next = getD heads (tb .two r) 0
 
-      other : (k j : ℕ) → j < 3 → k < r → getD (with-entry posts r (tb .one r) (tb .four r) next) (3 * k + j) 0 ≡ getD posts (3 * k + j) 0
+      other : (k j : ℕ) → j < 3 → k < r → getD (with-entry posts r (tb .one r) (tb .four r) next) (3 * k + j) 0
+          ≡ getD posts (3 * k + j) 0
       other k j l h = other-entry posts r (tb .one r) (tb .four r) next there k j l (λ z. omega (arith, z, h))
 
       at : (t : ℕ) → t < 64 → (b : Bool) → eqb (tb .two r) t ≡ b
           → getD (set heads (tb .two r) (suc r)) t 0 ≡ cond b (suc r) (link r (post-of tb t))
-      at t h true q = rw (← eqb-true (tb .two r) t q) (getD-set-same heads (tb .two r) (suc r) 0 (omega (arith, size, low)))
-      at t h false q = getD-set-other heads (tb .two r) t (suc r) 0 (λ z. eqb-false (tb .two r) t q (sym z)) ∙ g .begins t h
+      at t h true q =
+          rw (← eqb-true (tb .two r) t q) (getD-set-same heads (tb .two r) (suc r) 0 (omega (arith, size, low)))
+      at t h false q =
+          getD-set-other heads (tb .two r) t (suc r) 0 (λ z. eqb-false (tb .two r) t q (sym z)) ∙ g .begins t h

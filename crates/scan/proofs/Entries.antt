@@ -1,4 +1,5 @@
--- Entries of three numbers each: the numbers of the entry that is stored are what is stored, and those of the others stay.
+-- Entries of three numbers each: the numbers of the entry that is stored are what is stored, and those of the others
+-- stay.
 use mathlib.Core.Bool.{Bool, true, false, cond}
 use mathlib.Core.List.{List, [], _∷_}
 use mathlib.Core.Path.{_≡_, refl, sym, _∙_}
@@ -39,21 +40,26 @@ module _ (posts : List ℕ) (r a b c : ℕ) (there : 3 * r + 3 ≤ length posts)
       (omega (arith, there, length-set posts (3 * r + 0) a, length-set (set posts (3 * r + 0) a) (3 * r + 1) b))
 
   -- Those of another record.
-  pub other-entry : (k j : ℕ) → j < 3 → ¬ (k ≡ r) → getD (with-entry posts r a b c) (3 * k + j) 0 ≡ getD posts (3 * k + j) 0
+  pub other-entry : (k j : ℕ) → j < 3 → ¬ (k ≡ r)
+      → getD (with-entry posts r a b c) (3 * k + j) 0 ≡ getD posts (3 * k + j) 0
   other-entry k j low n =
-      getD-set-other (set (set posts (3 * r + 0) a) (3 * r + 1) b) (3 * r + 2) (3 * k + j) c 0 (λ z. n (omega (arith, z, low)))
+      getD-set-other (set (set posts (3 * r + 0) a) (3 * r + 1) b) (3 * r + 2) (3 * k + j) c 0
+      (λ z. n (omega (arith, z, low)))
       ∙ getD-set-other (set posts (3 * r + 0) a) (3 * r + 1) (3 * k + j) b 0 (λ z. n (omega (arith, z, low)))
       ∙ getD-set-other posts (3 * r + 0) (3 * k + j) a 0 (λ z. n (omega (arith, z, low)))
 
   -- Any number of any entry.
   pub entry-read : (k j : ℕ) → j < 3
-      → getD (with-entry posts r a b c) (3 * k + j) 0 ≡ cond (eqb r k) (getD (a ∷ b ∷ c ∷ []) j 0) (getD posts (3 * k + j) 0)
+      → getD (with-entry posts r a b c) (3 * k + j) 0
+      ≡ cond (eqb r k) (getD (a ∷ b ∷ c ∷ []) j 0) (getD posts (3 * k + j) 0)
   entry-read k j low = go (eqb r k) refl
     where
       own : (i : ℕ) → i < 3 → getD (with-entry posts r a b c) (3 * r + i) 0 ≡ getD (a ∷ b ∷ c ∷ []) i 0
       own i l =
-          up-to-2 (λ i. getD (with-entry posts r a b c) (3 * r + i) 0 ≡ getD (a ∷ b ∷ c ∷ []) i 0) own-first own-second own-third i (omega (arith, l))
+          up-to-2 (λ i. getD (with-entry posts r a b c) (3 * r + i) 0 ≡ getD (a ∷ b ∷ c ∷ []) i 0) own-first own-second
+          own-third i (omega (arith, l))
 
-      go : (x : Bool) → eqb r k ≡ x → getD (with-entry posts r a b c) (3 * k + j) 0 ≡ cond x (getD (a ∷ b ∷ c ∷ []) j 0) (getD posts (3 * k + j) 0)
+      go : (x : Bool) → eqb r k ≡ x → getD (with-entry posts r a b c) (3 * k + j) 0
+          ≡ cond x (getD (a ∷ b ∷ c ∷ []) j 0) (getD posts (3 * k + j) 0)
       go true e = rw (← eqb-true r k e) (own j low)
       go false e = other-entry k j low (λ z. eqb-false r k e (sym z))

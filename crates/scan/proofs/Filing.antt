@@ -1,13 +1,13 @@
 -- One more record is filed: what is kept of it is added in its rows, and everything else stays as it was.
 use mathlib.Core.Bool.{Bool, true, false, cond, _&&_, _||_, or-false}
 use mathlib.Core.List.{List, []}
-use mathlib.Core.Path.{_≡_, refl, sym, ap, ap₂, _∙_}
-use Prim.Native.Nat.{ℕ, zero, suc, _+_, _*_, _<_}
+use mathlib.Core.Path.{_≡_, refl, sym, ap, _∙_}
+use Prim.Native.Nat.{ℕ, suc, _<_}
 use native.Mathlib.Omega.{arith}
-use lib.Dec.{eqb, ltb}
+use lib.Dec.{eqb}
 use lib.ListN.{length, getD, set, length-set}
 use lib.Seq.{getD-set-same, getD-set-other}
-use borrow.Author.Tests.{eqb-true, eqb-false, eq-eqb, ne-eqb}
+use borrow.Author.Tests.{eqb-true, eqb-false}
 use Rattle.meaning.specs.Below.{some}
 use Rattle.meaning.specs.Bytes.{bit}
 use Rattle.meaning.specs.Table.{Table, is}
@@ -15,7 +15,7 @@ use Rattle.records.specs.declared.Rec.{Rec}
 use Rattle.records.specs.Record.{Reads, alone}
 use Rattle.rows.specs.declared.Declared.{Declared}
 use Rattle.rows.specs.Rows.{row, has, cell}
-use Rattle.rows.specs.Filed.{input, kept-in, joins, declares, latest, limit-in, last-in, Rowed, Paired, Cells, Timed, Known}
+use Rattle.rows.specs.Filed.{input, kept-in, joins, declares, latest, Rowed, Paired, Cells, Timed, Known}
 use Rattle.scan.specs.Scan.{Kept, Times-kept}
 
 -- The record as it was read is kept by the rows that keep it in the table.
@@ -63,10 +63,13 @@ module _ {tb : Table} {r : ℕ} {f : ℕ → ℕ} {m : List (List ℕ)} (g : Cel
       line = set (getD m o []) u (f r)
 
       width : (p : ℕ) → p < length m → (b : Bool) → eqb o p ≡ b → length (getD (set m o line) p []) ≡ 64
-      width p h true e = rw (← eqb-true o p e) (ap length (getD-set-same m o line [] there) ∙ length-set (getD m o []) u (f r) ∙ g .wide o there)
+      width p h true e =
+          rw (← eqb-true o p e) (ap length (getD-set-same m o line [] there) ∙ length-set (getD m o []) u (f r)
+          ∙ g .wide o there)
       width p h false e = ap length (getD-set-other m o p line [] (λ z. eqb-false o p e (sym z))) ∙ g .wide p h
 
-      at : (p t : ℕ) → t < 64 → (a b : Bool) → eqb o p ≡ a → eqb u t ≡ b → cell (set m o line) p t ≡ cond (a && b) (f r) (cell m p t)
+      at : (p t : ℕ) → t < 64 → (a b : Bool) → eqb o p ≡ a → eqb u t ≡ b
+          → cell (set m o line) p t ≡ cond (a && b) (f r) (cell m p t)
       at p t l true true x y =
           rw (← eqb-true o p x, ← eqb-true u t y)
           (ap (λ (z : List ℕ). getD z u 0) (getD-set-same m o line [] there)
@@ -75,7 +78,8 @@ module _ {tb : Table} {r : ℕ} {f : ℕ → ℕ} {m : List (List ℕ)} (g : Cel
           rw (← eqb-true o p x)
           (ap (λ (z : List ℕ). getD z t 0) (getD-set-same m o line [] there)
           ∙ getD-set-other (getD m o []) u t (f r) 0 (λ z. eqb-false u t y (sym z)))
-      at p t l false b x y = ap (λ (z : List ℕ). getD z t 0) (getD-set-other m o p line [] (λ z. eqb-false o p x (sym z)))
+      at p t l false b x y =
+          ap (λ (z : List ℕ). getD z t 0) (getD-set-other m o p line [] (λ z. eqb-false o p x (sym z)))
 
 -- TIMES
 
@@ -91,12 +95,21 @@ module _ {tb : Table} {r : ℕ} {times : List ℕ} (g : Timed tb r times) where
       }
 
   -- It declares one.
-  pub timed-more : {x : Rec} → Reads tb r x → is tb 2 r ≡ true → {after : List ℕ} → Times-kept x times after → Timed tb (suc r) after
+  pub timed-more : {x : Rec} → Reads tb r x → is tb 2 r ≡ true → {after : List ℕ} → Times-kept x times after
+      → Timed tb (suc r) after
   unfolding latest
   timed-more {x} reads e kept =
       record {
         first-is = λ t h. kept .holds t 0 h (omega arith) ∙ rw (reads .one, reads .four, e, g .first-is t h);
-        limit-is = λ t h. kept .holds t 1 h (omega arith) ∙ rw (reads .one, reads .four, reads .six, reads .sort, e, g .limit-is t h);
+        limit-is =
+            λ t h. kept .holds t 1 h (omega arith) ∙ rw (
+              reads .one,
+              reads .four,
+              reads .six,
+              reads .sort,
+              e,
+              g .limit-is t h,
+            );
         last-is = λ t h. kept .holds t 2 h (omega arith) ∙ rw (reads .one, reads .six, reads .sort, e, g .last-is t h);
       }
 
@@ -114,17 +127,20 @@ module _ {tb : Table} {r : ℕ} {known : Declared} (g : Known tb r known) where
 
   -- It declares a place.
   pub known-place : {after : Declared} {p : ℕ} → is tb 1 r ≡ true → is tb 2 r ≡ false → p ≡ tb .one r
-      → ((q : ℕ) → q < 128 → has after q ≡ (has known q || eqb p q)) → after .transitions ≡ known .transitions → Known tb (suc r) after
+      → ((q : ℕ) → q < 128 → has after q ≡ (has known q || eqb p q)) → after .transitions ≡ known .transitions
+      → Known tb (suc r) after
   unfolding some
   known-place e f p-is gains same =
       record {
         places = λ q h. gains q h ∙ rw (e, p-is, g .places q h);
-        transitions = λ t h. ap (λ (s : ℕ). bit s t) same ∙ g .transitions t h ∙ rw f (sym (or-false (some r (declares tb 2 t))));
+        transitions =
+            λ t h. ap (λ (s : ℕ). bit s t) same ∙ g .transitions t h ∙ rw f (sym (or-false (some r (declares tb 2 t))));
       }
 
   -- It declares a transition.
   pub known-transition : {after : Declared} {t : ℕ} → is tb 1 r ≡ false → is tb 2 r ≡ true → t ≡ tb .one r
-      → ((u : ℕ) → bit (after .transitions) u ≡ (bit (known .transitions) u || eqb t u)) → ((q : ℕ) → has after q ≡ has known q)
+      → ((u : ℕ) → bit (after .transitions) u ≡ (bit (known .transitions) u || eqb t u))
+      → ((q : ℕ) → has after q ≡ has known q)
       → Known tb (suc r) after
   unfolding some
   known-transition e f t-is gains same =

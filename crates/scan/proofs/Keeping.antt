@@ -1,12 +1,13 @@
--- What is filed after each kind of record: an arc, a place, a transition, and any other, which stands in the rows alone.
-use mathlib.Core.Bool.{Bool, true, false, cond, _||_}
+-- What is filed after each kind of record: an arc, a place, a transition, and any other, which stands in the rows
+-- alone.
+use mathlib.Core.Bool.{true, false, _||_}
 use mathlib.Core.List.{List}
-use mathlib.Core.Path.{_≡_, refl, sym, ap, _∙_}
+use mathlib.Core.Path.{_≡_, refl, _∙_}
 use Prim.Native.Nat.{ℕ, suc, _+_, _*_, _≤_, _<_}
 use native.Mathlib.Omega.{arith}
-use lib.Dec.{eqb, ltb}
+use lib.Dec.{eqb}
 use lib.ListN.{length}
-use borrow.Author.Tests.{eq-eqb, ne-eqb, lt-ltb}
+use borrow.Author.Tests.{ne-eqb, lt-ltb}
 use Rattle.meaning.specs.Bytes.{bit}
 use Rattle.meaning.specs.Table.{Table, is, post}
 use Rattle.records.specs.declared.Rec.{Rec}
@@ -18,7 +19,8 @@ use Rattle.meaning.proofs.Shows.{each-kind}
 use Rattle.scan.specs.Scan.{own-row, Kept, Input-kept, Post-kept, Times-kept}
 use Rattle.scan.proofs.Slots.{by-row, kept-none}
 use Rattle.scan.proofs.Filing
-use Rattle.scan.proofs.Arcs.{link-le, descends-more, posted-same, posted-more}
+use Rattle.rows.proofs.Arcs.{link-le}
+use Rattle.scan.proofs.Arcs.{descends-more, posted-same, posted-more}
 
 module _ {tb : Table} {r : ℕ} {x : Rec} (reads : Reads tb r x) where
   -- The kind of the record, as it was read.
@@ -31,9 +33,11 @@ module _ {tb : Table} {r : ℕ} {x : Rec} (reads : Reads tb r x) where
   no-post : (kind : ℕ) → x .kind ≡ kind → eqb kind 3 ≡ false → post tb r ≡ false
   no-post kind e n = rw (kind-is kind 3 e, n)
 
-  module _ {rows : List ℕ} {w s : List (List ℕ)} {heads posts times : List ℕ} {known : Declared} (g : Filed tb r rows w s heads posts times known) where
+  module _ {rows : List ℕ} {w s : List (List ℕ)} {heads posts times : List ℕ} {known : Declared}
+      (g : Filed tb r rows w s heads posts times known) where
     -- An input arc.
-    pub files-input : x .kind ≡ 3 → x .sort < 3 → x .one < length w → x .one < length s → x .two < 64 → {rows′ : List ℕ} {w′ s′ : List (List ℕ)}
+    pub files-input : x .kind ≡ 3 → x .sort < 3 → x .one < length w → x .one < length s → x .two < 64
+        → {rows′ : List ℕ} {w′ s′ : List (List ℕ)}
         → Input-kept x false rows w s rows′ w′ s′ → Filed tb (suc r) rows′ w′ s′ heads posts times known
     files-input kind sort there there′ two kept =
         let in-is : input tb r ≡ true = rw (kind-is 3 3 kind, ← reads .sort, lt-ltb (x .sort) 3 sort) in
@@ -54,8 +58,10 @@ module _ {tb : Table} {r : ℕ} {x : Rec} (reads : Reads tb r x) where
         }
 
     -- A post arc.
-    pub files-post : x .kind ≡ 3 → x .sort ≡ 3 → x .one < 128 → x .two < 64 → length heads ≡ 64 → 3 * r + 3 ≤ length posts → {rows′ heads′ posts′ : List ℕ}
-        → Post-kept x r false rows heads posts rows′ heads′ posts′ → Filed tb (suc r) rows′ w s heads′ posts′ times known
+    pub files-post : x .kind ≡ 3 → x .sort ≡ 3 → x .one < 128 → x .two < 64 → length heads ≡ 64
+        → 3 * r + 3 ≤ length posts → {rows′ heads′ posts′ : List ℕ}
+        → Post-kept x r false rows heads posts rows′ heads′ posts′
+        → Filed tb (suc r) rows′ w s heads′ posts′ times known
     files-post kind sort one two size there kept =
         let in-is : input tb r ≡ false = rw (kind-is 3 3 kind, ← reads .sort, sort) in
         let post-is : post tb r ≡ true = rw (kind-is 3 3 kind, ← reads .sort, sort) in
@@ -64,16 +70,20 @@ module _ {tb : Table} {r : ℕ} {x : Rec} (reads : Reads tb r x) where
           rowed = Filing.rowed-next reads (kept .kept refl) (g .rowed);
           weights = Filing.cells-same (g .weights) in-is;
           sorts = Filing.cells-same (g .sorts) in-is;
-          posted = rw (kept .head refl, kept .entry refl, reads .one, reads .two, reads .four) (posted-more (g .posted) post-is low size there);
+          posted =
+              rw (kept .head refl, kept .entry refl, reads .one, reads .two, reads .four)
+              (posted-more (g .posted) post-is low size there);
           descends =
               rw (kept .entry refl, reads .two)
-              (descends-more posts r _ _ _ there (g .descends) one (omega (arith, g .posted .begins (tb .two r) low, link-le r (post-of tb (tb .two r)))));
+              (descends-more posts r _ _ _ there (g .descends) one
+              (omega (arith, g .posted .begins (tb .two r) low, link-le r (post-of tb (tb .two r)))));
           timed = Filing.timed-same (g .timed) (kind-is 3 2 kind);
           known-are = Filing.known-same (g .known-are) (kind-is 3 1 kind) (kind-is 3 2 kind);
         }
 
     -- A record that stands in the rows alone.
-    pub files-row : (kind : ℕ) → x .kind ≡ kind → eqb kind 3 ≡ false → eqb kind 1 ≡ false → eqb kind 2 ≡ false → {rows′ : List ℕ} → Kept x rows rows′
+    pub files-row : (kind : ℕ) → x .kind ≡ kind → eqb kind 3 ≡ false → eqb kind 1 ≡ false → eqb kind 2 ≡ false
+        → {rows′ : List ℕ} → Kept x rows rows′
         → Filed tb (suc r) rows′ w s heads posts times known
     files-row kind e n n1 n2 kept =
         record {
@@ -87,7 +97,8 @@ module _ {tb : Table} {r : ℕ} {x : Rec} (reads : Reads tb r x) where
         }
 
     -- A place.
-    pub files-place : x .kind ≡ 1 → {after : Declared} {p : ℕ} → p ≡ x .one → ((q : ℕ) → q < 128 → has after q ≡ (has known q || eqb p q))
+    pub files-place : x .kind ≡ 1 → {after : Declared} {p : ℕ} → p ≡ x .one
+        → ((q : ℕ) → q < 128 → has after q ≡ (has known q || eqb p q))
         → after .transitions ≡ known .transitions → Kept x rows rows → Filed tb (suc r) rows w s heads posts times after
     files-place e p-is gains same kept =
         record {
@@ -102,7 +113,8 @@ module _ {tb : Table} {r : ℕ} {x : Rec} (reads : Reads tb r x) where
 
     -- A transition.
     pub files-transition : x .kind ≡ 2 → {after : Declared} {t : ℕ} {times′ : List ℕ} → t ≡ x .one
-        → ((u : ℕ) → bit (after .transitions) u ≡ (bit (known .transitions) u || eqb t u)) → ((q : ℕ) → has after q ≡ has known q)
+        → ((u : ℕ) → bit (after .transitions) u ≡ (bit (known .transitions) u || eqb t u))
+        → ((q : ℕ) → has after q ≡ has known q)
         → Times-kept x times times′ → Kept x rows rows → Filed tb (suc r) rows w s heads posts times′ after
     files-transition e t-is gains same kept-times kept =
         record {
@@ -112,23 +124,28 @@ module _ {tb : Table} {r : ℕ} {x : Rec} (reads : Reads tb r x) where
           posted = posted-same (g .posted) (no-post 2 e refl);
           descends = g .descends;
           timed = Filing.timed-more (g .timed) reads (kind-is 2 2 e) kept-times;
-          known-are = Filing.known-transition (g .known-are) (kind-is 2 1 e) (kind-is 2 2 e) (t-is ∙ reads .one) gains same;
+          known-are =
+              Filing.known-transition (g .known-are) (kind-is 2 1 e) (kind-is 2 2 e) (t-is ∙ reads .one) gains same;
         }
 
 -- A place or a transition stands in none of the rows.
-pub in-no-row : (x : Rec) (rows : List ℕ) (kind : ℕ) → x .kind ≡ kind → eqb kind 3 ≡ false → eqb kind 4 ≡ false → eqb kind 5 ≡ false → eqb kind 6 ≡ false
+pub in-no-row : (x : Rec) (rows : List ℕ) (kind : ℕ) → x .kind ≡ kind → eqb kind 3 ≡ false → eqb kind 4 ≡ false
+    → eqb kind 5 ≡ false → eqb kind 6 ≡ false
     → eqb kind 7 ≡ false → Kept x rows rows
 unfolding kept-in
 in-no-row x rows kind k arcs conditions pairs actions functions =
     kept-none x rows
-    (by-row (λ c. kept-in (alone x) c 0 ≡ false) (rw (k, arcs)) (rw (k, arcs)) (rw (k, arcs)) (rw (k, actions)) (rw (k, conditions)) (rw (k, conditions))
+    (by-row (λ c. kept-in (alone x) c 0 ≡ false) (rw (k, arcs)) (rw (k, arcs)) (rw (k, arcs)) (rw (k, actions))
+    (rw (k, conditions)) (rw (k, conditions))
     (rw (k, functions)) (rw (k, pairs)))
 
 -- A priority, an action or a function stands in one.
-pub in-own-row : (x : Rec) → 5 ≤ x .kind → x .kind ≤ 7 → (c : ℕ) → c < 8 → kept-in (alone x) c 0 ≡ eqb (own-row (x .kind) 0) c
+pub in-own-row : (x : Rec) → 5 ≤ x .kind → x .kind ≤ 7 → (c : ℕ) → c < 8
+    → kept-in (alone x) c 0 ≡ eqb (own-row (x .kind) 0) c
 unfolding kept-in own-row
 in-own-row x low high =
-    each-kind (λ k. x .kind ≡ k → (c : ℕ) → c < 8 → kept-in (alone x) c 0 ≡ eqb (own-row k 0) c) (λ e. absurd (omega (arith, e, low)))
+    each-kind (λ k. x .kind ≡ k → (c : ℕ) → c < 8 → kept-in (alone x) c 0 ≡ eqb (own-row k 0) c)
+    (λ e. absurd (omega (arith, e, low)))
     (λ e. absurd (omega (arith, e, low))) (λ e. absurd (omega (arith, e, low))) (λ e. absurd (omega (arith, e, low)))
     (λ e. by-row (λ c. kept-in (alone x) c 0 ≡ eqb 7 c) (rw e) (rw e) (rw e) (rw e) (rw e) (rw e) (rw e) (rw e))
     (λ e. by-row (λ c. kept-in (alone x) c 0 ≡ eqb 3 c) (rw e) (rw e) (rw e) (rw e) (rw e) (rw e) (rw e) (rw e))

@@ -1,11 +1,11 @@
--- A record is entered in the row of its own that each number has: eight rows a number, so the number and the row tell the slot.
-use mathlib.Core.Bool.{Bool, true, false, _&&_, _||_, or-assoc, or-false}
+-- A record is entered in the row of its own that each number has: eight rows a number, so the number and the row tell
+-- the slot.
+use mathlib.Core.Bool.{Bool, true, false, _&&_, _||_, or-false}
 use mathlib.Core.List.{List}
-use mathlib.Core.Path.{_≡_, refl, sym, ap, ap₂, _∙_}
+use mathlib.Core.Path.{_≡_, refl, sym, ap, _∙_}
 use Prim.Native.Nat.{ℕ, zero, suc, _+_, _*_, _<_}
 use native.Mathlib.Omega.{arith}
 use lib.Dec.{eqb}
-use lib.ListN.{getD}
 use borrow.Author.Tests.{eqb-true, eqb-false, eq-eqb, ne-eqb}
 use Rattle.meaning.specs.Bytes.{bit}
 use Rattle.records.specs.declared.Rec.{Rec}
@@ -41,11 +41,13 @@ by-row P a b c d e f g h (suc (suc (suc (suc (suc (suc (suc (suc n)))))))) l = a
 
 module _ (x : Rec) (rows : List ℕ) where
   -- Row d of the record's number has its byte 2.
-  entered-at : {q y d : ℕ} {after : List ℕ} → Entered rows q y after → q ≡ 8 * x .one + d → y ≡ x .two → d < 8 → (c i j : ℕ) → c < 8
+  entered-at : {q y d : ℕ} {after : List ℕ} → Entered rows q y after → q ≡ 8 * x .one + d → y ≡ x .two → d < 8
+      → (c i j : ℕ) → c < 8
       → bit (row after c i) j ≡ (bit (row rows c i) j || (eqb d c && joins (alone x) i j 0))
   entered-at {q} {y} {d} {after} entered q-is y-is low c i j h =
       entered .holds (8 * i + c) j
-      ∙ rw (q-is, y-is, slot (x .one) i d c low h) (ap (λ (b : Bool). bit (row rows c i) j || b) (sym (and-three (eqb d c) (eqb (x .one) i) (eqb (x .two) j))))
+      ∙ rw (q-is, y-is, slot (x .one) i d c low h) (ap (λ (b : Bool). bit (row rows c i) j || b)
+      (sym (and-three (eqb d c) (eqb (x .one) i) (eqb (x .two) j))))
     where
       and-three : (a b c : Bool) → (a && (b && c)) ≡ ((a && b) && c)
       and-three true b c = refl
@@ -60,14 +62,16 @@ module _ (x : Rec) (rows : List ℕ) where
   pub kept-none : ((c : ℕ) → c < 8 → kept-in (alone x) c 0 ≡ false) → Kept x rows rows
   kept-none own = record { holds = λ c i j h. rw (own c h) (sym (or-false (bit (row rows c i) j))) }
 
-pub kept-two : (x : Rec) (rows : List ℕ) {q y d : ℕ} {mid : List ℕ} → Entered rows q y mid → q ≡ 8 * x .one + d → y ≡ x .two → d < 8
+pub kept-two : (x : Rec) (rows : List ℕ) {q y d : ℕ} {mid : List ℕ} → Entered rows q y mid → q ≡ 8 * x .one + d
+    → y ≡ x .two → d < 8
     → {q′ y′ d′ : ℕ} {after : List ℕ} → Entered mid q′ y′ after → q′ ≡ 8 * x .one + d′ → y′ ≡ x .two → d′ < 8
     → ((c : ℕ) → c < 8 → kept-in (alone x) c 0 ≡ (eqb d c || eqb d′ c)) → Kept x rows after
 kept-two x rows {q} {y} {d} {mid} entered q-is y-is low {q′} {y′} {d′} {after} entered′ q-is′ y-is′ low′ own =
     record {
       holds = λ c i j h.
           entered-at x mid entered′ q-is′ y-is′ low′ c i j h
-          ∙ ap (λ (b : Bool). b || (eqb d′ c && joins (alone x) i j 0)) (entered-at x rows entered q-is y-is low c i j h)
+          ∙ ap (λ (b : Bool). b || (eqb d′ c && joins (alone x) i j 0))
+          (entered-at x rows entered q-is y-is low c i j h)
           ∙ rw (own c h) (either (bit (row rows c i) j) (eqb d c) (eqb d′ c) (joins (alone x) i j 0));
     }
   where

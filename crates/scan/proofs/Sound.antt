@@ -1,5 +1,5 @@
--- A record whose own columns are in order is one that the page shows, so its numbers are in range; what is left of its fault is whether an earlier one
--- says the same.
+-- A record whose own columns are in order is one that the page shows, so its numbers are in range; what is left of its
+-- fault is whether an earlier one says the same.
 use mathlib.Core.Bool.{Bool, true, false, cond}
 use mathlib.Core.Path.{_≡_, refl}
 use Prim.Native.Nat.{ℕ, _≤_, _<_}
@@ -26,7 +26,16 @@ module _ (tb : Table) (r : ℕ) (x : Rec) (reads : Reads tb r x) where
   field-read : bad-field (alone x) 0 ≡ bad-field tb r
   unfolding bad-field
   field-read =
-      rw (interval-columns (alone x) 0, interval-columns tb r, reads .kind, reads .one, reads .two, reads .sort, reads .four, reads .six)
+      rw (
+        interval-columns (alone x) 0,
+        interval-columns tb r,
+        reads .kind,
+        reads .one,
+        reads .two,
+        reads .sort,
+        reads .four,
+        reads .six,
+      )
 
   -- Its fault where its columns have one; else it is shown, and what is left is whether it stands there twice.
   pub own-fault : (fault-of x ≡ 0 → ⊥) → fault tb r ≡ fault-of x
@@ -52,7 +61,9 @@ module _ (tb : Table) (r : ℕ) (x : Rec) (reads : Reads tb r x) where
 -- So of a record by itself whose own columns are in order.
 module _ (x : Rec) (sound : fault-of x ≡ 0) where
   pub shown-alone : Shows (alone x) 0
-  shown-alone = in-order (alone x) 0 x (record { kind = refl; one = refl; two = refl; sort = refl; four = refl; six = refl }) sound .0
+  shown-alone =
+      in-order (alone x) 0 x (record { kind = refl; one = refl; two = refl; sort = refl; four = refl; six = refl })
+      sound .0
 
   pub one-there : x .one < 128
   one-there = one-low shown-alone

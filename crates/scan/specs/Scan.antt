@@ -25,7 +25,8 @@ pub record Entered (rows : List ℕ) (q y : ℕ) (after : List ℕ) : Type 0 whe
 
 -- The record stands in the rows that keep it beside what they had.
 pub record Kept (x : Rec) (rows after : List ℕ) : Type 0 where
-  pub holds : (c i y : ℕ) → c < 8 → bit (row after c i) y ≡ (bit (row rows c i) y || (kept-in (alone x) c 0 && joins (alone x) i y 0))
+  pub holds : (c i y : ℕ) → c < 8
+      → bit (row after c i) y ≡ (bit (row rows c i) y || (kept-in (alone x) c 0 && joins (alone x) i y 0))
 
 -- There are rows for its byte 1, and a bit for its byte 2.
 pub record Room (x : Rec) (rows : List ℕ) : Type 0 where
@@ -33,7 +34,8 @@ pub record Room (x : Rec) (rows : List ℕ) : Type 0 where
   pub bit-there : x .two < 64
 
 -- An input arc is kept with its weight and its sort, unless there was one already.
-pub record Input-kept (x : Rec) (again : Bool) (rows : List ℕ) (w s : List (List ℕ)) (rows′ : List ℕ) (w′ s′ : List (List ℕ)) : Type 0 where
+pub record Input-kept (x : Rec) (again : Bool) (rows : List ℕ) (w s : List (List ℕ)) (rows′ : List ℕ)
+    (w′ s′ : List (List ℕ)) : Type 0 where
   pub size : length rows′ ≡ length rows
   pub weights-size : length w′ ≡ length w
   pub sorts-size : length s′ ≡ length s
@@ -56,16 +58,19 @@ pub record Times-kept (x : Rec) (times after : List ℕ) : Type 0 where
   pub size : length after ≡ 192
   pub holds : (t k : ℕ) → t < 64 → k < 3
       → getD after (3 * t + k) 0
-      ≡ cond (eqb (x .one) t) (getD (x .four ∷ limit-in (alone x) 0 ∷ last-in (alone x) 0 ∷ []) k 0) (getD times (3 * t + k) 0)
+      ≡ cond (eqb (x .one) t) (getD (x .four ∷ limit-in (alone x) 0 ∷ last-in (alone x) 0 ∷ []) k 0)
+      (getD times (3 * t + k) 0)
 
--- An earlier record said the same: the place or the transition is declared, or the record's bit is set in the row that alone keeps its like.
+-- An earlier record said the same: the place or the transition is declared, or the record's bit is set in the row that
+-- alone keeps its like.
 unfoldable pub own-row : ℕ → ℕ → ℕ
 own-row kind sort = getD (0 ∷ 0 ∷ 0 ∷ cond (eqb sort 3) 2 0 ∷ 4 ∷ 7 ∷ 3 ∷ 6 ∷ []) kind 0
 
 unfoldable pub again-by : Rec → Declared → List ℕ → Bool
 again-by x known rows =
     cond (eqb (x .kind) 1) (has known (x .one))
-    (cond (eqb (x .kind) 2) (bit (known .transitions) (x .one)) (bit (row rows (own-row (x .kind) (x .sort)) (x .one)) (x .two)))
+    (cond (eqb (x .kind) 2) (bit (known .transitions) (x .one))
+    (bit (row rows (own-row (x .kind) (x .sort)) (x .one)) (x .two)))
 
 -- The columns of record r are in order, and there is room for it everywhere.
 pub record Keep-asks (x : Rec) (r : ℕ) (rows : List ℕ) (w s : List (List ℕ)) (heads posts times : List ℕ) : Type 0 where
@@ -79,8 +84,8 @@ pub record Keep-asks (x : Rec) (r : ℕ) (rows : List ℕ) (w s : List (List ℕ
   pub times-size : length times ≡ 192
 
 -- There is as much room as before.
-pub record Same-room (rows : List ℕ) (w s : List (List ℕ)) (heads posts times rows′ : List ℕ) (w′ s′ : List (List ℕ)) (heads′ posts′ times′ : List ℕ)
-    : Type 0 where
+pub record Same-room (rows : List ℕ) (w s : List (List ℕ)) (heads posts times rows′ : List ℕ)
+    (w′ s′ : List (List ℕ)) (heads′ posts′ times′ : List ℕ) : Type 0 where
   pub rows-same : length rows′ ≡ length rows
   pub weights-same : length w′ ≡ length w
   pub sorts-same : length s′ ≡ length s
@@ -89,8 +94,8 @@ pub record Same-room (rows : List ℕ) (w s : List (List ℕ)) (heads posts time
   pub times-same : length times′ ≡ length times
 
 -- Whether the record is one too many; and if it is not, what was filed of the records before it is filed of it too.
-pub record Keeps (x : Rec) (r : ℕ) (known : Declared) (k : Step) (rows : List ℕ) (w s : List (List ℕ)) (heads posts times rows′ : List ℕ)
-    (w′ s′ : List (List ℕ)) (heads′ posts′ times′ : List ℕ) : Type 0 where
+pub record Keeps (x : Rec) (r : ℕ) (known : Declared) (k : Step) (rows : List ℕ) (w s : List (List ℕ))
+    (heads posts times rows′ : List ℕ) (w′ s′ : List (List ℕ)) (heads′ posts′ times′ : List ℕ) : Type 0 where
   pub again-is : k .again ≡ again-by x known rows
   pub room : Same-room rows w s heads posts times rows′ w′ s′ heads′ posts′ times′
   pub filed : (tb : Table) → Reads tb r x → k .again ≡ false → Filed tb r rows w s heads posts times known
@@ -109,7 +114,8 @@ pub record Blank (tb : Table) (rows : List ℕ) (w s : List (List ℕ)) (heads p
   pub no-times : times ≡ replicate 192 0
 
 -- The pass ends at the first record that meets 2, 3 or 4, with its number; where there is none, all records are filed.
-pub record Scanned (tb : Table) (p : Pass) (rows : List ℕ) (w s : List (List ℕ)) (heads posts times : List ℕ) : Type 0 where
+pub record Scanned (tb : Table) (p : Pass) (rows : List ℕ) (w s : List (List ℕ))
+    (heads posts times : List ℕ) : Type 0 where
   pub at-is : p .at ≡ first (tb .records) (faulty tb)
   pub number-is : p .number ≡ cond (ltb (p .at) (tb .records)) (fault tb (p .at)) 0
   pub filed : p .number ≡ 0 → Filed tb (tb .records) rows w s heads posts times (p .known)

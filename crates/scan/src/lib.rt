@@ -17,26 +17,14 @@ use rows::WANTED_TRUE;
 use rows::WEIGHT;
 ghost use mathlib.Core.Bool.{true, false, cond};
 ghost use mathlib.Core.Path.{_≡_};
-ghost use Prim.Native.Nat.{ℕ, suc, _+_, _*_, _≤_, _<_};
+ghost use Prim.Native.Nat.{suc, _+_, _*_, _≤_, _<_};
 ghost use lib.Dec.{eqb};
-ghost use lib.ListN.{length, getD, set};
+ghost use lib.ListN.{length, getD};
 ghost use Rattle.meaning.specs.Bytes.{bit};
 ghost use Rattle.meaning.specs.Table.{table};
 ghost use Rattle.rows.specs.Rows.{inputs, givers, looks};
-ghost use Rattle.scan.specs.Scan.{Entered, Kept, Room, Input-kept, Post-kept, Times-kept, own-row, Keep-asks, Keeps, Blank, Scanned};
-
-// A byte, and two of them, as numbers of their width.
-fn half(x: u8) -> u16
-    ensures { λ r. ⌜ r ≡ x ⌝ }
-{
-    x as u16
-}
-
-fn wide(x: u16) -> u32
-    ensures { λ r. ⌜ (r ≡ x) × (r ≤ 65535) ⌝ }
-{
-    x as u32
-}
+ghost use Rattle.scan.specs.Scan.{Entered, Kept, Room, Input-kept, Post-kept, Times-kept, own-row};
+ghost use Rattle.scan.specs.Scan.{Keep-asks, Keeps, Blank, Scanned};
 
 // Sets bit y of row q. Was it set already?
 fn enter(rows: &mut [u64], q: usize, y: usize) -> bool
@@ -53,7 +41,8 @@ fn enter(rows: &mut [u64], q: usize, y: usize) -> bool
     false
 }
 
-// Keeps an input arc: among those of its place, among those that take from it if it is basic, and its weight and sort. Was there one already?
+// Keeps an input arc: among those of its place, among those that take from it if it is basic, and its weight and sort.
+// Was there one already?
 fn keep_input(x: Rec, rows: &mut [u64], w: &mut [[u16; 64]], s: &mut [[u8; 64]]) -> bool
     requires { ⌜ Room x (now rows) × (x .one < length (now w)) × (x .one < length (now s)) ⌝ }
     requires { ⌜ (x .kind ≡ 3) × (x .sort < 3) ⌝ }
@@ -74,7 +63,8 @@ fn keep_input(x: Rec, rows: &mut [u64], w: &mut [[u16; 64]], s: &mut [[u8; 64]])
     false
 }
 
-// Keeps a post arc, record r: among those of its place, and at the head of its transition's chain. Was there one already?
+// Keeps a post arc, record r: among those of its place, and at the head of its transition's chain. Was there one
+// already?
 fn keep_post(x: Rec, r: usize, rows: &mut [u64], heads: &mut [u16; 64], posts: &mut [u16]) -> bool
     requires { ⌜ Room x (now rows) × (r < 1024) × (3 * r + 3 ≤ length (now posts)) ⌝ }
     requires { ⌜ (x .kind ≡ 3) × (x .sort ≡ 3) ⌝ }
@@ -86,7 +76,7 @@ fn keep_post(x: Rec, r: usize, rows: &mut [u64], heads: &mut [u16; 64], posts: &
     if enter(rows, 8 * records::wide(x.one) + POSTS, t) {
         return true;
     }
-    posts[3 * r + PLACE] = half(x.one);
+    posts[3 * r + PLACE] = numbers::half(x.one);
     posts[3 * r + WEIGHT] = x.four;
     posts[3 * r + NEXT] = heads[t];
     heads[t] = (r + 1) as u16;
@@ -97,7 +87,8 @@ fn keep_post(x: Rec, r: usize, rows: &mut [u64], heads: &mut [u16; 64], posts: &
 fn keep_condition(x: Rec, rows: &mut [u64]) -> bool
     requires { ⌜ Room x (now rows) × (x .kind ≡ 4) ⌝ }
     ensures { λ r. ⌜ r ≡ bit (looks (now (rows .entry)) (x .one)) (x .two) ⌝ }
-    ensures { λ r. ⌜ (r ≡ false → Kept x (now (rows .entry)) (now (rows .exit))) × (length (now (rows .exit)) ≡ length (now (rows .entry))) ⌝ }
+    ensures { λ r. ⌜ (r ≡ false → Kept x (now (rows .entry)) (now (rows .exit)))
+        × (length (now (rows .exit)) ≡ length (now (rows .entry))) ⌝ }
 {
     let t = records::wide(x.one);
     let c = records::wide(x.two);
@@ -130,7 +121,7 @@ fn keep_times(x: Rec, times: &mut [u32; 192])
     ensures { λ _. ⌜ Times-kept x (now (times .entry)) (now (times .exit)) ⌝ }
 {
     let t = records::wide(x.one);
-    times[3 * t + FIRST] = wide(x.four);
+    times[3 * t + FIRST] = numbers::wide(x.four);
     times[3 * t + LIMIT] = limit_of(x.sort, x.four, x.six);
     times[3 * t + LAST] = last_of(x.sort, x.six);
 }
@@ -165,8 +156,9 @@ fn keep(
     times: &mut [u32; 192],
 ) -> Step
     requires { ⌜ Keep-asks x r (now rows) (now w) (now s) (now heads) (now posts) (now times) ⌝ }
-    ensures { λ k. ⌜ Keeps x r known k (now (rows .entry)) (now (w .entry)) (now (s .entry)) (now (heads .entry)) (now (posts .entry)) (now (times .entry))
-        (now (rows .exit)) (now (w .exit)) (now (s .exit)) (now (heads .exit)) (now (posts .exit)) (now (times .exit)) ⌝ }
+    ensures { λ k. ⌜ Keeps x r known k (now (rows .entry)) (now (w .entry)) (now (s .entry)) (now (heads .entry))
+        (now (posts .entry)) (now (times .entry)) (now (rows .exit)) (now (w .exit)) (now (s .exit)) (now (heads .exit))
+        (now (posts .exit)) (now (times .exit)) ⌝ }
 {
     let kind = x.kind;
     if kind == 3 {
@@ -199,15 +191,16 @@ fn keep(
     Step { again, known }
 }
 
-// What the pass finds: at the first record that meets 2, 3 or 4 its number, else number 0 and at the number of records; and what is declared.
+// What the pass finds: at the first record that meets 2, 3 or 4 its number, else number 0 and at the number of records;
+// and what is declared.
 pub struct Pass {
     pub number: u8,
     pub at: usize,
     pub known: Declared,
 }
 
-// Each record in order is tested for 2, 3 and 4. The rows are lent empty, with room for the numbers and the records of the table, and hold all
-// records where none has a fault.
+// Each record in order is tested for 2, 3 and 4. The rows are lent empty, with room for the numbers and the records of
+// the table, and hold all records where none has a fault.
 pub fn scan(
     t: &[u8],
     rows: &mut [u64],
@@ -219,7 +212,8 @@ pub fn scan(
 ) -> Pass
     requires { ⌜ length (now t) ≤ 8192 ⌝ }
     requires { ⌜ Blank (table (now t)) (now rows) (now w) (now s) (now heads) (now posts) (now times) ⌝ }
-    ensures { λ p. ⌜ Scanned (table (now (t .entry))) p (now (rows .exit)) (now (w .exit)) (now (s .exit)) (now (heads .exit)) (now (posts .exit)) (now (times .exit)) ⌝ }
+    ensures { λ p. ⌜ Scanned (table (now (t .entry))) p (now (rows .exit)) (now (w .exit)) (now (s .exit))
+        (now (heads .exit)) (now (posts .exit)) (now (times .exit)) ⌝ }
 {
     let n = t.len() / 8;
     let kinds = records::kinds();

@@ -1,9 +1,11 @@
--- A word as a set: what its bits say of or, and, a power of two, a sum and a count of zeros. Each law goes bit by bit, the lowest first.
+-- A word as a set: what its bits say of or, and, a power of two, a sum and a count of zeros. Each law goes bit by bit,
+-- the lowest first.
 use mathlib.Core.Bool.{Bool, true, false, cond, not, _&&_, _||_, and-true, and-false}
 use mathlib.Core.Path.{_≡_, refl, sym, ap, _∙_}
 use mathlib.Core.Logic.{⊎-elim}
 use Prim.Native.Nat.{ℕ, zero, suc, _-_, _*_, _/_, _%_, _^_, min, max, _≤_, _<_, suc-le-suc}
-use native.Mathlib.Nat.{not-suc-le-zero, le-of-suc-le-suc, lt-of-not-le, eq-or-lt-of-le, lt-of-le-of-lt, zero-min, zero-max, max-le, min-le-left, min-eq-right, max-eq-left, pow-suc, one-mul}
+use native.Mathlib.Nat.{not-suc-le-zero, le-of-suc-le-suc, lt-of-not-le, eq-or-lt-of-le, lt-of-le-of-lt, zero-min}
+use native.Mathlib.Nat.{zero-max, max-le, min-le-left, min-eq-right, max-eq-left, pow-suc, one-mul}
 use native.Mathlib.Omega.{arith}
 use lib.Dec.{eqb, eqb·zero-suc, eqb·suc-zero, eqb·suc-suc}
 use lib.Arith.{lt-one, digits-mod}
@@ -31,7 +33,8 @@ digit-is (suc zero) h = refl
 digit-is (suc (suc x)) h = no-digit h
 
 digit-same : (a b : ℕ) → eqb (a % 2) 1 ≡ eqb (b % 2) 1 → a % 2 ≡ b % 2
-digit-same a b e = digit-is (a % 2) (digit-low a) ∙ ap (λ (t : Bool). cond t 1 0) e ∙ sym (digit-is (b % 2) (digit-low b))
+digit-same a b e =
+    digit-is (a % 2) (digit-low a) ∙ ap (λ (t : Bool). cond t 1 0) e ∙ sym (digit-is (b % 2) (digit-low b))
 
 digit-or : (x y : ℕ) → x < 2 → y < 2 → eqb (max x y) 1 ≡ (eqb x 1 || eqb y 1)
 digit-or zero y h l = rw zero-max
@@ -54,7 +57,8 @@ digit-apart (suc (suc x)) y h l = no-digit h
 or-low : (a b : ℕ) → bitOr a b % 2 ≡ max (a % 2) (b % 2)
 or-low a b =
     ap (λ (x : ℕ). x % 2) (or-step a b)
-    ∙ digits-mod (bitOr (a / 2) (b / 2)) (suc-le-suc (max-le (le-of-suc-le-suc (digit-low a)) (le-of-suc-le-suc (digit-low b))))
+    ∙ digits-mod (bitOr (a / 2) (b / 2)) (suc-le-suc (max-le (le-of-suc-le-suc (digit-low a))
+    (le-of-suc-le-suc (digit-low b))))
 
 and-low : (a b : ℕ) → bitAnd a b % 2 ≡ min (a % 2) (b % 2)
 and-low a b =
@@ -67,14 +71,16 @@ unfolding bit
 bit-or a b k =
     let x = a / 2 ^ k in
     let y = b / 2 ^ k in
-    ap (λ (z : ℕ). eqb z 1) (ap (λ (z : ℕ). z % 2) (or-shr a b k) ∙ or-low x y) ∙ digit-or (x % 2) (y % 2) (digit-low x) (digit-low y)
+    ap (λ (z : ℕ). eqb z 1) (ap (λ (z : ℕ). z % 2) (or-shr a b k) ∙ or-low x y)
+    ∙ digit-or (x % 2) (y % 2) (digit-low x) (digit-low y)
 
 pub bit-and : (a b k : ℕ) → bit (bitAnd a b) k ≡ (bit a k && bit b k)
 unfolding bit
 bit-and a b k =
     let x = a / 2 ^ k in
     let y = b / 2 ^ k in
-    ap (λ (z : ℕ). eqb z 1) (ap (λ (z : ℕ). z % 2) (and-shr a b k) ∙ and-low x y) ∙ digit-and (x % 2) (y % 2) (digit-low x) (digit-low y)
+    ap (λ (z : ℕ). eqb z 1) (ap (λ (z : ℕ). z % 2) (and-shr a b k) ∙ and-low x y)
+    ∙ digit-and (x % 2) (y % 2) (digit-low x) (digit-low y)
 
 -- k alone is in 2 ^ k.
 pub bit-one : (k j : ℕ) → bit (2 ^ k) j ≡ eqb k j
@@ -110,7 +116,8 @@ half-below n a h = omega (arith, pow-suc 2 n)
 pub same-below : (n a b : ℕ) → a < 2 ^ n → b < 2 ^ n → ((k : ℕ) → k < n → bit a k ≡ bit b k) → a ≡ b
 same-below zero a b h l f = lt-one h ∙ sym (lt-one l)
 same-below (suc n) a b h l f =
-    let above : (k : ℕ) → k < n → bit (a / 2) k ≡ bit (b / 2) k = λ k s. sym (bit-high a k) ∙ f (suc k) (suc-le-suc s) ∙ bit-high b k in
+    let above : (k : ℕ) → k < n → bit (a / 2) k ≡ bit (b / 2) k =
+    λ k s. sym (bit-high a k) ∙ f (suc k) (suc-le-suc s) ∙ bit-high b k in
     let high : a / 2 ≡ b / 2 = same-below n (a / 2) (b / 2) (half-below n a h) (half-below n b l) above in
     let low : a % 2 ≡ b % 2 = digit-same a b (sym (bit-low a) ∙ f 0 (omega arith) ∙ bit-low b) in
     omega arith
@@ -145,15 +152,18 @@ bit-less (suc k) a zero e =
 bit-less (suc k) a (suc j) e =
     let least : 2 ^ suc k ≤ a = bit-least a (suc k) e in
     let half : (a - 2 ^ suc k) / 2 ≡ a / 2 - 2 ^ k = omega (arith, pow-suc 2 k) in
-    bit-high (a - 2 ^ suc k) j ∙ rw (half, eqb·suc-suc k j, bit-high a j) (bit-less k (a / 2) j (sym (bit-high a k) ∙ e))
+    bit-high (a - 2 ^ suc k) j ∙ rw (half, eqb·suc-suc k j, bit-high a j)
+    (bit-less k (a / 2) j (sym (bit-high a k) ∙ e))
 
 -- A number less what it shares with another has what the other lacks.
 pub bit-apart : (a b j : ℕ) → bit (a - bitAnd a b) j ≡ (bit a j && not (bit b j))
-bit-apart a b zero = bit-low (a - bitAnd a b) ∙ rw (bit-low a, bit-low b, low) (digit-apart (a % 2) (b % 2) (digit-low a) (digit-low b))
+bit-apart a b zero =
+    bit-low (a - bitAnd a b) ∙ rw (bit-low a, bit-low b, low) (digit-apart (a % 2) (b % 2) (digit-low a) (digit-low b))
   where
     low : (a - bitAnd a b) % 2 ≡ a % 2 - min (a % 2) (b % 2)
     low = omega (arith, and-step a b, and-le-l (a / 2) (b / 2), min-le-left (a % 2) (b % 2))
-bit-apart a b (suc j) = bit-high (a - bitAnd a b) j ∙ rw (bit-high a j, bit-high b j, half) (bit-apart (a / 2) (b / 2) j)
+bit-apart a b (suc j) =
+    bit-high (a - bitAnd a b) j ∙ rw (bit-high a j, bit-high b j, half) (bit-apart (a / 2) (b / 2) j)
   where
     half : (a - bitAnd a b) / 2 ≡ a / 2 - bitAnd (a / 2) (b / 2)
     half = omega (arith, and-step a b, and-le-l (a / 2) (b / 2), min-le-left (a % 2) (b % 2))
@@ -164,7 +174,8 @@ unfolding trailingZeros
 zeros-before zero a j h = absurd (not-suc-le-zero h)
 zeros-before (suc n) a j h = go (a % 2) j refl h (zeros-before n (a / 2))
   where
-    go : (x j : ℕ) → a % 2 ≡ x → j < under x (trailingZeros n (a / 2)) → ((i : ℕ) → i < trailingZeros n (a / 2) → bit (a / 2) i ≡ false) → bit a j ≡ false
+    go : (x j : ℕ) → a % 2 ≡ x → j < under x (trailingZeros n (a / 2))
+        → ((i : ℕ) → i < trailingZeros n (a / 2) → bit (a / 2) i ≡ false) → bit a j ≡ false
     go zero zero e l f = bit-low a ∙ rw e
     go zero (suc i) e l f = bit-high a i ∙ f i (le-of-suc-le-suc l)
     go (suc x) j e l f = absurd (not-suc-le-zero l)
@@ -175,7 +186,8 @@ zeros-at zero a h = absurd (not-suc-le-zero h)
 zeros-at (suc n) a h = go (a % 2) refl h (zeros-at n (a / 2))
   where
     go : (x : ℕ) → a % 2 ≡ x → under x (trailingZeros n (a / 2)) < suc n
-        → (trailingZeros n (a / 2) < n → bit (a / 2) (trailingZeros n (a / 2)) ≡ true) → bit a (under x (trailingZeros n (a / 2))) ≡ true
+        → (trailingZeros n (a / 2) < n → bit (a / 2) (trailingZeros n (a / 2)) ≡ true)
+        → bit a (under x (trailingZeros n (a / 2))) ≡ true
     go zero e l f = bit-high a (trailingZeros n (a / 2)) ∙ f (le-of-suc-le-suc l)
     go (suc x) e l f = bit-low a ∙ eq-eqb (a % 2) 1 (omega arith)
 

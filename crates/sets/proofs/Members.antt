@@ -1,19 +1,18 @@
--- A walk over the members of a set, the lowest first: each turn takes one out, so that the set falls, and what each row has or is to take stays.
-use mathlib.Core.Bool.{Bool, true, false, not, _&&_, _||_, and-true, and-false, or-false}
-use mathlib.Core.List.{List}
+-- A walk over the members of a set, the lowest first: each turn takes one out, so that the set falls.
+use mathlib.Core.Bool.{Bool, true, false, cond, not, _&&_, _||_, and-true, and-false, or-false}
 use mathlib.Core.Path.{_≡_, refl, sym, ap, _∙_}
-use Prim.Native.Nat.{ℕ, _-_, _^_, _<_}
+use Prim.Native.Nat.{ℕ, _+_, _-_, _^_, _<_}
+use native.Mathlib.Nat.{add-zero, zero-add}
 use native.Mathlib.Omega.{arith}
-use lib.Dec.{eqb, ltb}
-use lib.ListN.{length, getD, set}
+use lib.Dec.{eqb}
 use lib.Pow.{pow-pos}
-use lib.Seq.{getD-set-same, getD-set-other}
-use borrow.Author.Tests.{eqb-true, eqb-false, eq-eqb, ne-eqb, not-false, lt-ltb}
-use Rattle.meaning.specs.Below.{some, first}
+use borrow.Author.Tests.{eqb-true, eq-eqb, ne-eqb, not-false}
+use Rattle.meaning.specs.Below.{some, sum, first}
 use Rattle.meaning.specs.Bytes.{bit}
 use Rattle.meaning.proofs.Bool.{not-both}
-use Rattle.meaning.proofs.Below.{some-elim, first-before, first-passes}
-use Rattle.sets.proofs.Bits.{bit-zero, bit-least, bit-less, same-set, zero-set}
+use Rattle.meaning.proofs.Below.{some-elim, first-before, first-passes, sum-same, sum-add}
+use Rattle.meaning.proofs.Sound.{sum-one}
+use Rattle.sets.proofs.Bits.{bit-least, bit-less, same-set, zero-set}
 
 -- The lowest member of a set that is not empty is below 64, and is in the set.
 pub lowest-in : (a k : ℕ) → a < 2 ^ 64 → ¬ (a ≡ 0) → k ≡ first 64 (bit a) → (k < 64) × (bit a k ≡ true)
@@ -23,9 +22,15 @@ lowest-in a k h n e =
     let low : first 64 (bit a) < 64 = omega (arith, w .1) in
     (omega arith, ap (bit a) e ∙ first-passes 64 (bit a) low)
 
--- Row t has j, or is to take it: t is in what is left of the set, and j is one of those that each row takes.
-abbrev pub due : List ℕ → ℕ → (ℕ → Bool) → ℕ → ℕ → Bool
-due rows left q t j = bit (getD rows t 0) j || (bit left t && q j)
+-- The sum of f over the members of a set.
+abbrev pub over : ℕ → (ℕ → ℕ) → ℕ
+over s f = sum 64 (λ t. cond (bit s t) (f t) 0)
+
+-- What is left after a turn is what was left without the lowest member.
+pub without : (left k rest : ℕ) → k ≡ first 64 (bit left)
+    → ((j : ℕ) → bit rest j ≡ (bit left j && not (eqb (first 64 (bit left)) j)))
+    → (j : ℕ) → bit rest j ≡ (bit left j && not (eqb k j))
+without left k rest e less j = less j ∙ ap (λ (x : ℕ). bit left j && not (eqb x j)) (sym e)
 
 -- A turn takes member k out of set a and leaves set b.
 module _ (a k b : ℕ) (rest : (j : ℕ) → bit b j ≡ (bit a j && not (eqb k j))) where
@@ -45,25 +50,31 @@ module _ (a k b : ℕ) (rest : (j : ℕ) → bit b j ≡ (bit a j && not (eqb k 
       go false y = out j (sym (and-true (bit a j)) ∙ sym (rw y at (rest j)) ∙ z)
 
   -- Member k is kept if it passes: what is kept or is still to be kept stays the same.
-  pub kept : (f : ℕ → Bool) (r after : ℕ) (y : Bool) → k < 64 → bit a k ≡ true → y ≡ f k
-      → ((j : ℕ) → bit after j ≡ (bit r j || (y && (eqb k j && ltb k 64)))) → (t : ℕ)
+  pub kept : (f : ℕ → Bool) (r after : ℕ) (y : Bool) → bit a k ≡ true → y ≡ f k
+      → ((j : ℕ) → bit after j ≡ (bit r j || (y && eqb k j))) → (t : ℕ)
       → (bit after t || (bit b t && f t)) ≡ (bit r t || (bit a t && f t))
-  kept f r after y h e passes gains t = go (eqb k t) refl
+  kept f r after y e passes gains t = go (eqb k t) refl
     where
       go : (x : Bool) → eqb k t ≡ x → (bit after t || (bit b t && f t)) ≡ (bit r t || (bit a t && f t))
-      go true q =
-          rw (← eqb-true k t q, gains k, rest k, e, eq-eqb k k refl, lt-ltb k 64 h, and-true y, passes) (or-false _)
+      go true q = rw (← eqb-true k t q, gains k, rest k, e, eq-eqb k k refl, and-true y, passes) (or-false _)
       go false q = rw (gains t, rest t, q, and-false y, or-false (bit r t), and-true (bit a t))
 
-  -- Row k takes what it is to take: what each row has or is to take stays the same.
-  pub added : (rows : List ℕ) (v : ℕ) (q : ℕ → Bool) → k < length rows → bit a k ≡ true
-      → ((j : ℕ) → bit v j ≡ (bit (getD rows k 0) j || q j)) → (t j : ℕ) → due (set rows k v) b q t j ≡ due rows a q t j
-  added rows v q h e gains t j = go (eqb k t) refl
+  -- Something of every member adds up to that of member k and of the others.
+  pub over-less : (f : ℕ → ℕ) → k < 64 → bit a k ≡ true → over a f ≡ f k + over b f
+  over-less f low has =
+      sum-same 64 (λ t. cond (bit a t) (f t) 0) (λ t. cond (eqb k t) (f t) 0 + cond (bit b t) (f t) 0)
+      (λ t h. rw (rest t) (part t (eqb k t) (bit a t) refl refl))
+      ∙ sum-add 64 (λ t. cond (eqb k t) (f t) 0) (λ t. cond (bit b t) (f t) 0)
+      ∙ ap (λ (x : ℕ). x + over b f) alone
     where
-      go : (x : Bool) → eqb k t ≡ x → due (set rows k v) b q t j ≡ due rows a q t j
-      go true y = rw (← eqb-true k t y, getD-set-same rows k v 0 h, gains j, rest k, e, eq-eqb k k refl) (or-false _)
-      go false y = rw (getD-set-other rows k t v 0 (λ z. eqb-false k t y (sym z)), rest t, y, and-true (bit a t))
+      part : (t : ℕ) (x y : Bool) → eqb k t ≡ x → bit a t ≡ y
+          → cond y (f t) 0 ≡ cond x (f t) 0 + cond (y && not x) (f t) 0
+      part t true true e d = sym (add-zero (f t))
+      part t true false e d = not-both (ap (bit a) (sym (eqb-true k t e)) ∙ has) d
+      part t false true e d = sym (zero-add (f t))
+      part t false false e d = refl
 
--- With nothing left a row has all it was to take.
-pub none-due : (rows : List ℕ) (a : ℕ) (q : ℕ → Bool) (t j : ℕ) → a ≡ 0 → bit (getD rows t 0) j ≡ due rows a q t j
-none-due rows a q t j e = rw (e, bit-zero t) (sym (or-false _))
+      alone : sum 64 (λ t. cond (eqb k t) (f t) 0) ≡ f k
+      alone =
+          sum-one 64 (λ t. cond (eqb k t) (f t) 0) k low (λ t h n. rw (ne-eqb k t (λ e. n (sym e))))
+          ∙ rw (eq-eqb k k refl)

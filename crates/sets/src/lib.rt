@@ -1,25 +1,16 @@
 // Sets of the numbers 0 to 63, one bit each. Each function says which numbers its answer has.
 ghost use mathlib.Core.Path.{_≡_};
-ghost use mathlib.Core.Bool.{true, _&&_, _||_, not};
+ghost use mathlib.Core.Bool.{_&&_, _||_, not};
 ghost use Prim.Native.Nat.{ℕ, _<_};
-ghost use lib.Dec.{eqb, ltb};
+ghost use lib.Dec.{eqb};
 ghost use Rattle.meaning.specs.Below.{some, first};
 ghost use Rattle.meaning.specs.Bytes.{bit};
-ghost use lib.ListN.{length};
-ghost use Rattle.sets.specs.Given.{Given};
 
 // Is k in s?
 pub fn has(s: u64, k: usize) -> bool
     ensures { λ r. ⌜ r ≡ bit s k ⌝ }
 {
     if k < 64 { (s >> k) % 2 == 1 } else { false }
-}
-
-// s and k, where k is below 64.
-pub fn with(s: u64, k: usize) -> u64
-    ensures { λ r. ⌜ ((j : ℕ) → bit r j ≡ (bit s j || (eqb k j && ltb k 64))) ⌝ }
-{
-    if k < 64 { s | (1 << k) } else { s }
 }
 
 // k alone.
@@ -63,17 +54,4 @@ pub fn rest(s: u64) -> u64
     ensures { λ r. ⌜ ((j : ℕ) → bit r j ≡ (bit s j && not (eqb (first 64 (bit s)) j))) ⌝ }
 {
     if s == 0 { 0 } else { s & (s - 1) }
-}
-
-// Whoever is in `to` gets all of `what` into its row. There is a row for each of them.
-pub fn give(rows: &mut [u64], to: u64, what: u64)
-    requires { ⌜ ((t : ℕ) → bit to t ≡ true → t < length (now rows)) ⌝ }
-    ensures { λ _. ⌜ Given (now (rows .entry)) to what (now (rows .exit)) ⌝ }
-{
-    let mut left = to;
-    while left != 0 {
-        let t = lowest(left);
-        rows[t] = union(rows[t], what);
-        left = rest(left);
-    }
 }

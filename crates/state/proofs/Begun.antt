@@ -1,4 +1,5 @@
--- The image of a fresh net, record by record: after r records the image holds the first tokens of the places declared so far.
+-- The image of a fresh net, record by record: after r records the image holds the first tokens of the places declared
+-- so far.
 use mathlib.Core.Bool.{Bool, true, false, cond, _&&_}
 use mathlib.Core.Path.{_≡_, refl, sym, ap, fun-ext}
 use Prim.Native.Nat.{ℕ, suc, _≤_, _<_}
@@ -38,10 +39,12 @@ unfolding begun fresh total
 begun-all tb = refl
 
 -- A record that declares no place changes nothing.
-pub begun-other : (tb : Table) (r : ℕ) → (tb .kind r ≡ 1 → ⊥) → image-bytes (begun tb r) ≡ image-bytes (begun tb (suc r))
+pub begun-other : (tb : Table) (r : ℕ) → (tb .kind r ≡ 1 → ⊥)
+    → image-bytes (begun tb r) ≡ image-bytes (begun tb (suc r))
 unfolding begun sum
 begun-other tb r e =
-    ap (λ (f : ℕ → ℕ). image-bytes (record { tokens = f; counter = λ t. 0; order = λ t. false })) (fun-ext (λ p. rw (ne-eqb (tb .kind r) 1 e) (omega arith)))
+    ap (λ (f : ℕ → ℕ). image-bytes (record { tokens = f; counter = λ t. 0; order = λ t. false }))
+    (fun-ext (λ p. rw (ne-eqb (tb .kind r) 1 e) (omega arith)))
 
 -- First tokens fit two bytes.
 few-tokens : {o t s f x : ℕ} → Shown 1 o t s f x → f ≤ 65535
@@ -52,7 +55,8 @@ pub begun-place : (tb : Table) → Sound-table tb → (r : ℕ) → r < tb .reco
     → tokens-put tb r (image-bytes (begun tb r)) ≡ image-bytes (begun tb (suc r))
 unfolding begun sum
 begun-place tb sound r h k =
-    store-place (begun tb r) (begun tb (suc r)) (tb .one r) (tb .four r) (omega (arith, shown-place (of-kind tb r 1 (sound .shown r h) k) .0))
+    store-place (begun tb r) (begun tb (suc r)) (tb .one r) (tb .four r)
+    (omega (arith, shown-place (of-kind tb r 1 (sound .shown r h) k) .0))
     (rw (eq-eqb (tb .kind r) 1 k, eq-eqb (tb .one r) (tb .one r) refl, earlier) (omega arith))
     (few-tokens (of-kind tb r 1 (sound .shown r h) k))
     (λ q apart. rw (eq-eqb (tb .kind r) 1 k, ne-eqb (tb .one r) q (λ e. apart (sym e))) (omega arith))
@@ -71,5 +75,6 @@ begun-place tb sound r h k =
         not-yet (is tb 1 j && eqb (tb .one j) (tb .one r)) (tb .four j)
         (λ e.
         let same : j ≡ r =
-        place-once tb sound j r (omega arith) h (eqb-true (tb .kind j) 1 (and-left (is tb 1 j) _ e)) k (eqb-true (tb .one j) (tb .one r) (and-right (is tb 1 j) _ e)) in
+        place-once tb sound j r (omega arith) h (eqb-true (tb .kind j) 1 (and-left (is tb 1 j) _ e)) k
+        (eqb-true (tb .one j) (tb .one r) (and-right (is tb 1 j) _ e)) in
         omega arith))

@@ -1,8 +1,8 @@
 -- The first record that is wrong is the first place whose record is, and where there is none the first such transition.
-use mathlib.Core.Bool.{Bool, true, false, cond}
+use mathlib.Core.Bool.{Bool, true, false}
 use mathlib.Core.List.{List}
 use mathlib.Core.Logic.{⊎-elim}
-use mathlib.Core.Path.{_≡_, refl, sym, ap, _∙_}
+use mathlib.Core.Path.{_≡_, sym, ap, _∙_}
 use Prim.Native.Nat.{ℕ, _+_, _*_, _-_, _≤_, _<_}
 use native.Mathlib.Numerals.{add-one}
 use native.Mathlib.Omega.{arith}
@@ -12,7 +12,6 @@ use Rattle.meaning.specs.Below.{first}
 use Rattle.meaning.proofs.Below.{last, first-is, first-none}
 use Rattle.meaning.proofs.Bool.{either}
 use Rattle.rows.specs.declared.Declared.{Declared}
-use Rattle.rows.specs.Rows.{transitions-below}
 use Rattle.state.specs.Records.{Quiet, First-from}
 use Rattle.state.specs.Fit.{wrong-place-by, order-by, wrong-transition-by, wrong-by}
 use Rattle.rows.specs.Rows.{limit-of}
@@ -30,21 +29,6 @@ none-joined n m p f g k h =
     ⊎-elim (λ (t : ltb k n ≡ true). f k (ltb-true k n t)) (λ (t : ltb k n ≡ false). g k (ltb-false k n t) h)
     (either (ltb k n))
 
--- What is at or past the number of transitions below n, and a transition, is at or past n; and there are at most 64.
-pub past-transitions : (n t : ℕ) → transitions-below n ≤ t → t < 64 → n ≤ t
-past-transitions n t = go (ltb n 64) refl
-  where
-    go : (b : Bool) → ltb n 64 ≡ b → cond b n 64 ≤ t → t < 64 → n ≤ t
-    go true e h l = h
-    go false e h l = absurd (omega arith)
-
-pub few-transitions : (n : ℕ) → transitions-below n ≤ 64
-few-transitions n = go (ltb n 64) refl
-  where
-    go : (b : Bool) → ltb n 64 ≡ b → cond b n 64 ≤ 64
-    go true e = omega (arith, ltb-true n 64 e)
-    go false e = omega arith
-
 -- RECORDS THAT ARE 0 ARE NEVER WRONG
 
 -- Places from n on whose bytes are 0.
@@ -61,7 +45,13 @@ unfolding wrong-transition-by
 quiet-transitions bs times q t h =
     let blank = quiet-is bs 512 768 (128 + t) q (omega arith) (omega arith) (omega arith) in
     let limit = limit-of times t in
-    rw (blank .third, blank .fourth, blank .number, le-ltb limit 0 (omega arith), le-ltb (order-by limit) 0 (omega arith))
+    rw (
+      blank .third,
+      blank .fourth,
+      blank .number,
+      le-ltb limit 0 (omega arith),
+      le-ltb (order-by limit) 0 (omega arith),
+    )
 
 -- THE FIRST WRONG RECORD
 
@@ -90,7 +80,8 @@ module _ (bs : List ℕ) (known : Declared) (times : List ℕ) where
 
   module _ (none : (p : ℕ) → p < 128 → wrong-place-by bs known p ≡ false) where
     -- No record before transition t is wrong.
-    before : (t : ℕ) → ((k : ℕ) → k < t → wrong-transition-by bs times k ≡ false) → (k : ℕ) → k < 128 + t → test k ≡ false
+    before : (t : ℕ) → ((k : ℕ) → k < t → wrong-transition-by bs times k ≡ false) → (k : ℕ) → k < 128 + t
+        → test k ≡ false
     before t f =
         none-joined 128 (128 + t) test (λ k l. of-place k l ∙ none k l)
         (λ k l h.
@@ -117,7 +108,8 @@ module _ (bs : List ℕ) (known : Declared) (times : List ℕ) where
     at-none q = sym (first-none 192 test (λ k h. before 64 (λ t l. quiet-transitions bs times q t l) k h))
 
   -- No place is wrong where none before n is and none from n on.
-  pub no-place : {n p q : ℕ} → First-from (wrong-place-by bs known) 0 n p → n ≤ p → First-from (wrong-place-by bs known) n 128 q → 128 ≤ q
+  pub no-place : {n p q : ℕ} → First-from (wrong-place-by bs known) 0 n p → n ≤ p
+      → First-from (wrong-place-by bs known) n 128 q → 128 ≤ q
       → (k : ℕ) → k < 128 → wrong-place-by bs known k ≡ false
   no-place {n} low l high r =
       none-joined n 128 (wrong-place-by bs known) (λ k h. low .before k (omega arith) (omega arith))

@@ -21,7 +21,8 @@ image-same a b la lb f =
     subst (λ (x : ℕ). getD a x 0 ≡ getD b x 0) (sym whole) (f (i / 4) (i % 4) (omega arith) (omega arith)))
 
 -- A record of an image is a place's or a transition's.
-pub each-record : (P : ℕ → Type 0) → ((p : ℕ) → p < 128 → P p) → ((t : ℕ) → t < 64 → P (128 + t)) → (k : ℕ) → k < 192 → P k
+pub each-record : (P : ℕ → Type 0) → ((p : ℕ) → p < 128 → P p) → ((t : ℕ) → t < 64 → P (128 + t)) → (k : ℕ) → k < 192
+    → P k
 each-record P place transition k h =
     ⊎-elim (λ (e : ltb k 128 ≡ true). place k (ltb-true k 128 e))
     (λ (e : ltb k 128 ≡ false).

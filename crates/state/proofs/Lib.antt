@@ -6,6 +6,5 @@ pub mod Write
 pub mod Orders
 pub mod Put
 pub mod Begun
-pub mod Times
 pub mod Fitted
 pub mod Past

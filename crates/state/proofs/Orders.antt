@@ -24,23 +24,30 @@ ordering s f = record { tokens = s .tokens; counter = s .counter; order = f }
 
 -- With none left out it is the state itself, and with all of them it has none.
 pub but-none : (s : State) (left : ℕ) → left ≡ 0 → image-bytes (but s left) ≡ image-bytes s
-but-none s left e = rw e (ap (λ (f : ℕ → Bool). image-bytes (ordering s f)) (fun-ext (λ t. rw (bit-zero t) (and-true (s .order t)))))
+but-none s left e =
+    rw e (ap (λ (f : ℕ → Bool). image-bytes (ordering s f)) (fun-ext (λ t. rw (bit-zero t) (and-true (s .order t)))))
 
-pub but-all : (s : State) (left : ℕ) → ((t : ℕ) → s .order t ≡ bit left t) → image-bytes (ordering s (bit 0)) ≡ image-bytes (but s left)
-but-all s left same = ap (λ (f : ℕ → Bool). image-bytes (ordering s f)) (fun-ext (λ t. bit-zero t ∙ sym (rw (same t) (never (bit left t)))))
+pub but-all : (s : State) (left : ℕ) → ((t : ℕ) → s .order t ≡ bit left t)
+    → image-bytes (ordering s (bit 0)) ≡ image-bytes (but s left)
+but-all s left same =
+    ap (λ (f : ℕ → Bool). image-bytes (ordering s f))
+    (fun-ext (λ t. bit-zero t ∙ sym (rw (same t) (never (bit left t)))))
   where
     never : (b : Bool) → (b && not b) ≡ false
     never true = refl
     never false = refl
 
 -- One that is left out is put in: only the third byte of its record changes.
-pub but-one : (s : State) (left rest t : ℕ) → t < 64 → s .order t ≡ true → bit left t ≡ true → ((j : ℕ) → bit rest j ≡ (bit left j && not (eqb t j)))
+pub but-one : (s : State) (left rest t : ℕ) → t < 64 → s .order t ≡ true → bit left t ≡ true
+    → ((j : ℕ) → bit rest j ≡ (bit left j && not (eqb t j)))
     → set (image-bytes (but s left)) (512 + 4 * t + 2) 1 ≡ image-bytes (but s rest)
 unfolding bytes
 but-one s left rest t low mine member takes =
-    image-same (set (image-bytes (but s left)) here 1) (image-bytes (but s rest)) (length-set (image-bytes (but s left)) here 1 ∙ image-length (but s left))
+    image-same (set (image-bytes (but s left)) here 1) (image-bytes (but s rest))
+    (length-set (image-bytes (but s left)) here 1 ∙ image-length (but s left))
     (image-length (but s rest))
-    (λ k j hk hj. each-record (λ n. (i : ℕ) → i < 4 → Same (4 * n + i)) of-place (λ u l i h. of-transition u i l h (eqb t u) refl) k hk j hj)
+    (λ k j hk hj. each-record (λ n. (i : ℕ) → i < 4 → Same (4 * n + i)) of-place
+    (λ u l i h. of-transition u i l h (eqb t u) refl) k hk j hj)
   where
     here : ℕ
     here = 512 + 4 * t + 2
@@ -50,7 +57,8 @@ but-one s left rest t low mine member takes =
     Same k = getD (set (image-bytes (but s left)) here 1) k 0 ≡ getD (image-bytes (but s rest)) k 0
 
     -- Away from that byte nothing is written.
-    away : (k : ℕ) → ¬ (k ≡ here) → getD (set (image-bytes (but s left)) here 1) k 0 ≡ getD (image-bytes (but s left)) k 0
+    away : (k : ℕ) → ¬ (k ≡ here) → getD (set (image-bytes (but s left)) here 1) k 0
+        ≡ getD (image-bytes (but s left)) k 0
     away k n = getD-set-other (image-bytes (but s left)) here k 1 0 n
 
     -- The order of another stays.
@@ -60,7 +68,8 @@ but-one s left rest t low mine member takes =
         ap (λ (b : Bool). s .order u && not b) same
 
     -- Of a transition's record only the third byte hangs on its order.
-    unordered : (c j : ℕ) (b d : Bool) → j < 4 → ¬ (j ≡ 2) → getD (bytes 2 c ++ cond b 1 0 ∷ 0 ∷ []) j 0 ≡ getD (bytes 2 c ++ cond d 1 0 ∷ 0 ∷ []) j 0
+    unordered : (c j : ℕ) (b d : Bool) → j < 4 → ¬ (j ≡ 2)
+        → getD (bytes 2 c ++ cond b 1 0 ∷ 0 ∷ []) j 0 ≡ getD (bytes 2 c ++ cond d 1 0 ∷ 0 ∷ []) j 0
     unordered c zero b d h n = refl
     unordered c (suc zero) b d h n = refl
     unordered c (suc (suc zero)) b d h n = absurd (n refl)
@@ -104,4 +113,5 @@ but-one s left rest t low mine member takes =
 
     of-place : (p : ℕ) → p < 128 → (j : ℕ) → j < 4 → Same (4 * p + j)
     of-place p l j h =
-        away (4 * p + j) (λ z. omega (arith, z, l)) ∙ place-byte (but s left) p j l h ∙ sym (place-byte (but s rest) p j l h)
+        away (4 * p + j) (λ z. omega (arith, z, l)) ∙ place-byte (but s left) p j l h
+        ∙ sym (place-byte (but s rest) p j l h)

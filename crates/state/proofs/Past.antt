@@ -1,4 +1,5 @@
--- Past the numbers of a table an image that fits is 0, since no record declares a place or a transition there; and a state that agrees with it has nothing.
+-- Past the numbers of a table an image that fits is 0, since no record declares a place or a transition there; and a
+-- state that agrees with it has nothing.
 use mathlib.Core.Bool.{not, _&&_, _||_, false}
 use mathlib.Core.List.{List}
 use mathlib.Core.Path.{_≡_, _∙_}
@@ -17,12 +18,18 @@ use Rattle.meaning.proofs.Sound.{declared-none}
 use Rattle.state.specs.Holds.{held, Idle-past}
 use Rattle.state.specs.Records.{Blank, Blank-past}
 
-module _ (tb : Table) {n : ℕ} (below : (r : ℕ) → r < tb .records → tb .one r < n) (img : Image) (fits : Fits tb img) where
+module _ (tb : Table) {n : ℕ} (below : (r : ℕ) → r < tb .records → tb .one r < n) (img : Image)
+    (fits : Fits tb img) where
   no-place : (p : ℕ) → n ≤ p → place tb p ≡ false
   unfolding place
   no-place p l =
       none-intro (tb .records) _
-      (λ r h. not-true-false _ (λ e. omega (arith, below r h, l, eqb-true (tb .one r) p (and-right (is tb 1 r) (eqb (tb .one r) p) e))))
+      (λ r h. not-true-false _ (λ e. omega (
+        arith,
+        below r h,
+        l,
+        eqb-true (tb .one r) p (and-right (is tb 1 r) (eqb (tb .one r) p) e),
+      )))
 
   no-timing : (t : ℕ) → n ≤ t → timing tb t ≡ 0
   no-timing t l = declared-none tb 2 t (tb .sort) (λ r h k o. omega (arith, below r h, l, o))
@@ -34,8 +41,11 @@ module _ (tb : Table) {n : ℕ} (below : (r : ℕ) → r < tb .records → tb .o
       or-false-left _ (not (eqb (img .number p) 0) && not (place tb p)) (fits-place tb img fits p h) in
       record {
         number = fits-empty tb img fits p h (no-place p l);
-        third = eqb-true _ 0 (not-false _ (or-false-left (not (eqb (img .third p) 0)) (not (eqb (img .fourth p) 0)) zeros));
-        fourth = eqb-true _ 0 (not-false _ (or-false-right (not (eqb (img .third p) 0)) (not (eqb (img .fourth p) 0)) zeros));
+        third =
+            eqb-true _ 0 (not-false _ (or-false-left (not (eqb (img .third p) 0)) (not (eqb (img .fourth p) 0)) zeros));
+        fourth =
+            eqb-true _ 0 (not-false _ (or-false-right (not (eqb (img .third p) 0)) (not (eqb (img .fourth p) 0))
+            zeros));
       }
 
   no-counter : (t : ℕ) → n ≤ t → most tb t ≡ 0
@@ -55,18 +65,26 @@ module _ (tb : Table) {n : ℕ} (below : (r : ℕ) → r < tb .records → tb .o
       record {
         number = omega (arith, fits-counter tb img fits t h, no-counter t l);
         third =
-            omega (arith, no-order t l, ltb-false (most-order tb t) (img .third (128 + t)) (or-false-right (ltb (most tb t) (img .number (128 + t))) (ltb (most-order tb t) (img .third (128 + t))) low));
+            omega (
+              arith,
+              no-order t l,
+              ltb-false (most-order tb t) (img .third (128 + t))
+                  (or-false-right (ltb (most tb t) (img .number (128 + t)))
+                  (ltb (most-order tb t) (img .third (128 + t))) low),
+            );
         fourth =
             eqb-true _ 0
             (not-false _
-            (or-false-right (ltb (most tb t) (img .number (128 + t)) || ltb (most-order tb t) (img .third (128 + t))) (not (eqb (img .fourth (128 + t)) 0)) right));
+            (or-false-right (ltb (most tb t) (img .number (128 + t)) || ltb (most-order tb t) (img .third (128 + t)))
+            (not (eqb (img .fourth (128 + t)) 0)) right));
       }
 
   pub blank-past : Blank-past img n
   blank-past = record { places = blank-place; transitions = blank-transition }
 
   -- The arrays of a state that agrees with it.
-  pub idle-past : {tokens counters : List ℕ} (orders : ℕ) → Alike (state img) (held tokens counters orders) → Idle-past tokens counters n
+  pub idle-past : {tokens counters : List ℕ} (orders : ℕ) → Alike (state img) (held tokens counters orders)
+      → Idle-past tokens counters n
   unfolding state
   idle-past orders alike =
       record {

@@ -27,7 +27,8 @@ use Rattle.state.specs.Records.{Blank, Quiet}
 pub number-at : (bs : List ℕ) (k : ℕ) → k < 192 → image bs .number k ≡ getD bs (4 * k) 0 + 256 * getD bs (4 * k + 1) 0
 unfolding image
 number-at bs k h =
-    ap₂ (λ (a b : ℕ). a + 256 * b) (cut-read 4 192 k 0 bs h (omega arith) ∙ ap (λ (i : ℕ). getD bs i 0) (add-zero (4 * k)))
+    ap₂ (λ (a b : ℕ). a + 256 * b) (cut-read 4 192 k 0 bs h (omega arith)
+    ∙ ap (λ (i : ℕ). getD bs i 0) (add-zero (4 * k)))
     (cut-read 4 192 k 1 bs h (omega arith))
 
 pub third-at : (bs : List ℕ) (k : ℕ) → k < 192 → image bs .third k ≡ getD bs (4 * k + 2) 0
@@ -57,16 +58,24 @@ both-zero a b e = (omega (arith, or-add-and a b, and-le-r a b), omega (arith, or
 pub quiet-none : (bs : List ℕ) (from : ℕ) → Quiet bs from from
 quiet-none bs from i l h = absurd (omega arith)
 
-pub quiet-more : (bs : List ℕ) (from i any : ℕ) → (any ≡ 0 → Quiet bs from i) → bitOr any (getD bs i 0) ≡ 0 → Quiet bs from (i + 1)
+pub quiet-more : (bs : List ℕ) (from i any : ℕ) → (any ≡ 0 → Quiet bs from i) → bitOr any (getD bs i 0) ≡ 0
+    → Quiet bs from (i + 1)
 quiet-more bs from i any q e j l h =
     let none = both-zero any (getD bs i 0) e in
     ⊎-elim (λ (s : j ≡ i). ap (λ (k : ℕ). getD bs k 0) s ∙ none .1) (q (none .0) j l) (last (rw add-one at h))
 
 -- A record whose bytes are 0 is 0.
-pub quiet-is : (bs : List ℕ) (from to k : ℕ) → Quiet bs from to → from ≤ 4 * k → 4 * k + 4 ≤ to → k < 192 → Blank (image bs) k
+pub quiet-is : (bs : List ℕ) (from to k : ℕ) → Quiet bs from to → from ≤ 4 * k → 4 * k + 4 ≤ to → k < 192
+    → Blank (image bs) k
 quiet-is bs from to k none l h m =
     record {
-      number = omega (arith, number-at bs k m, none (4 * k) (omega arith) (omega arith), none (4 * k + 1) (omega arith) (omega arith));
+      number =
+          omega (
+            arith,
+            number-at bs k m,
+            none (4 * k) (omega arith) (omega arith),
+            none (4 * k + 1) (omega arith) (omega arith),
+          );
       third = omega (arith, third-at bs k m, none (4 * k + 2) (omega arith) (omega arith));
       fourth = omega (arith, fourth-at bs k m, none (4 * k + 3) (omega arith) (omega arith));
     }
@@ -93,16 +102,19 @@ empty-row m xs e =
 pub lists-none : (f : ℕ → ℕ) (xs : List ℕ) → Lists 0 f xs
 lists-none f xs = record { same = λ i h. absurd (not-suc-le-zero h); small = λ i h. absurd (not-suc-le-zero h) }
 
-pub lists-more : (i : ℕ) (f : ℕ → ℕ) (xs : List ℕ) (x : ℕ) → Lists i f xs → i < length xs → x ≡ f i → x ≤ 65535 → Lists (i + 1) f (set xs i x)
+pub lists-more : (i : ℕ) (f : ℕ → ℕ) (xs : List ℕ) (x : ℕ) → Lists i f xs → i < length xs → x ≡ f i → x ≤ 65535
+    → Lists (i + 1) f (set xs i x)
 lists-more i f xs x l h e s =
-    let other : (j : ℕ) → j < i → getD (set xs i x) j 0 ≡ getD xs j 0 = λ j a. getD-set-other xs i j x 0 (λ q. omega arith) in
+    let other : (j : ℕ) → j < i → getD (set xs i x) j 0 ≡ getD xs j 0 =
+    λ j a. getD-set-other xs i j x 0 (λ q. omega arith) in
     let here : getD (set xs i x) i 0 ≡ x = getD-set-same xs i x 0 h in
     record {
       same = below-more _ i (λ j a. other j a ∙ l .same j a) (here ∙ e);
       small = below-more _ i (λ j a. rw (other j a) (l .small j a)) (rw here s);
     }
 
-pub lists-rest : (n m : ℕ) (f : ℕ → ℕ) (xs : List ℕ) → Lists n f xs → ((i : ℕ) → n ≤ i → getD xs i 0 ≡ 0) → ((i : ℕ) → n ≤ i → i < m → f i ≡ 0)
+pub lists-rest : (n m : ℕ) (f : ℕ → ℕ) (xs : List ℕ) → Lists n f xs → ((i : ℕ) → n ≤ i → getD xs i 0 ≡ 0)
+    → ((i : ℕ) → n ≤ i → i < m → f i ≡ 0)
     → Lists m f xs
 lists-rest n m f xs l none past =
     record {
@@ -111,12 +123,14 @@ lists-rest n m f xs l none past =
           (λ (e : ltb i n ≡ false). none i (ltb-false i n e) ∙ sym (past i (ltb-false i n e) h))
           (either (ltb i n));
       small = λ i h.
-          ⊎-elim (λ (e : ltb i n ≡ true). l .small i (ltb-true i n e)) (λ (e : ltb i n ≡ false). omega (arith, none i (ltb-false i n e)))
+          ⊎-elim (λ (e : ltb i n ≡ true). l .small i (ltb-true i n e))
+          (λ (e : ltb i n ≡ false). omega (arith, none i (ltb-false i n e)))
           (either (ltb i n));
     }
 
 -- What is not written yet is still empty.
-pub still-none : (n : ℕ) (xs : List ℕ) (x : ℕ) → ((i : ℕ) → n ≤ i → getD xs i 0 ≡ 0) → (i : ℕ) → n + 1 ≤ i → getD (set xs n x) i 0 ≡ 0
+pub still-none : (n : ℕ) (xs : List ℕ) (x : ℕ) → ((i : ℕ) → n ≤ i → getD xs i 0 ≡ 0) → (i : ℕ) → n + 1 ≤ i
+    → getD (set xs n x) i 0 ≡ 0
 still-none n xs x none i h = getD-set-other xs n i x 0 (λ e. omega (arith, e, h)) ∙ none i (omega (arith, h))
 
 -- Of the first t numbers a set has those that pass f, and it has no others.
@@ -124,15 +138,21 @@ pub record Marked (t : ℕ) (f : ℕ → Bool) (s : ℕ) : Type 0 where
   pub below : (j : ℕ) → j < t → bit s j ≡ f j
   pub above : (j : ℕ) → t ≤ j → bit s j ≡ false
 
--- A set made so far: of none, with the next number passed over, with the next number joined, and with all others passed over.
+-- A set made so far: of none, with the next number passed over, with the next number joined, and with all others
+-- passed over.
 pub marked-none : (f : ℕ → Bool) → Marked 0 f 0
 marked-none f = record { below = λ j h. absurd (not-suc-le-zero h); above = λ j h. bit-zero j }
 
 pub marked-same : (t : ℕ) (f : ℕ → Bool) (s : ℕ) → Marked t f s → f t ≡ false → Marked (t + 1) f s
 marked-same t f s m off =
-    record { below = below-more _ t (m .below) (m .above t (omega arith) ∙ sym off); above = λ j h. m .above j (omega arith) }
+    record {
+      below = below-more _ t (m .below) (m .above t (omega arith) ∙ sym off);
+      above =
+          λ j h. m .above j (omega arith);
+    }
 
-pub marked-more : (t : ℕ) (f : ℕ → Bool) (s r : ℕ) → Marked t f s → f t ≡ true → ((j : ℕ) → bit r j ≡ (bit s j || eqb t j)) → Marked (t + 1) f r
+pub marked-more : (t : ℕ) (f : ℕ → Bool) (s r : ℕ) → Marked t f s → f t ≡ true
+    → ((j : ℕ) → bit r j ≡ (bit s j || eqb t j)) → Marked (t + 1) f r
 marked-more t f s r m e says =
     record {
       below = below-more _ t (λ j l. says j ∙ rw (ne-eqb t j (λ q. omega arith), m .below j l) (or-false (f j)))
@@ -140,7 +160,8 @@ marked-more t f s r m e says =
       above = λ j l. says j ∙ rw (ne-eqb t j (λ q. omega arith), m .above j (omega arith));
     }
 
-pub marked-rest : (t n : ℕ) (f : ℕ → Bool) (s : ℕ) → Marked t f s → ((j : ℕ) → t ≤ j → j < n → f j ≡ false) → (j : ℕ) → j < n → bit s j ≡ f j
+pub marked-rest : (t n : ℕ) (f : ℕ → Bool) (s : ℕ) → Marked t f s → ((j : ℕ) → t ≤ j → j < n → f j ≡ false) → (j : ℕ)
+    → j < n → bit s j ≡ f j
 marked-rest t n f s m off j h =
     ⊎-elim (λ (e : ltb j t ≡ true). m .below j (ltb-true j t e))
     (λ (e : ltb j t ≡ false). m .above j (ltb-false j t e) ∙ sym (off j (ltb-false j t e) h))

@@ -1,4 +1,5 @@
--- Writing an image: four stores are one record, the records stored so far are those of the state, and 192 of them are the image.
+-- Writing an image: four stores are one record, the records stored so far are those of the state, and 192 of them are
+-- the image.
 use mathlib.Core.Bool.{true, false}
 use mathlib.Core.List.{List, [], _∷_, _++_}
 use mathlib.Core.Logic.{⊎-elim}
@@ -51,7 +52,8 @@ module _ (bs : List ℕ) (k a b c d : ℕ) (long : length bs ≡ 768) (low : k <
       ∙ getD-set-other two (4 * k + 2) (4 * k + 1) c 0 (λ e. omega arith)
       ∙ getD-set-same one (4 * k + 1) b 0 (simp length-set (inside 1 h))
   stored-here (suc (suc zero)) h =
-      getD-set-other three (4 * k + 3) (4 * k + 2) d 0 (λ e. omega arith) ∙ getD-set-same two (4 * k + 2) c 0 (simp length-set (inside 2 h))
+      getD-set-other three (4 * k + 3) (4 * k + 2) d 0 (λ e. omega arith)
+      ∙ getD-set-same two (4 * k + 2) c 0 (simp length-set (inside 2 h))
   stored-here (suc (suc (suc zero))) h = getD-set-same three (4 * k + 3) d 0 (simp length-set (inside 3 h))
   stored-here (suc (suc (suc (suc j)))) h = absurd (omega arith)
 
@@ -90,13 +92,16 @@ upto-more : (want old bs next : List ℕ) (k x : ℕ) → Upto want old k bs →
 upto-more want old bs next k x u s is =
     record {
       long = s .long;
-      right = below-more _ k (λ n l j h. s .others n j (λ e. omega arith) h ∙ u .right n l j h) (λ j h. s .here j h ∙ sym (is j h));
+      right =
+          below-more _ k (λ n l j h. s .others n j (λ e. omega arith) h ∙ u .right n l j h)
+          (λ j h. s .here j h ∙ sym (is j h));
       rest = λ n l j h. s .others n j (λ e. omega arith) h ∙ u .rest n (omega arith) j h;
     }
 
 -- Records that were right of old.
 upto-past : (want old bs : List ℕ) (k n : ℕ) → Upto want old k bs → k ≤ n
-    → ((i : ℕ) → k ≤ i → i < n → (j : ℕ) → j < 4 → getD old (4 * i + j) 0 ≡ getD want (4 * i + j) 0) → Upto want old n bs
+    → ((i : ℕ) → k ≤ i → i < n → (j : ℕ) → j < 4 → getD old (4 * i + j) 0 ≡ getD want (4 * i + j) 0)
+    → Upto want old n bs
 upto-past want old bs k n u l same =
     record {
       long = u .long;
@@ -122,7 +127,8 @@ no-byte (suc (suc (suc (suc j)))) h = absurd (omega arith)
 
 module _ (s : State) (old : List ℕ) where
   -- Places at which there is nothing, and was nothing of old; and transitions.
-  pub idle-places : (bs : List ℕ) (n : ℕ) → n ≤ 128 → ((p : ℕ) → n ≤ p → p < 128 → Blank (image old) p) → ((p : ℕ) → n ≤ p → p < 128 → s .tokens p ≡ 0)
+  pub idle-places : (bs : List ℕ) (n : ℕ) → n ≤ 128 → ((p : ℕ) → n ≤ p → p < 128 → Blank (image old) p)
+      → ((p : ℕ) → n ≤ p → p < 128 → s .tokens p ≡ 0)
       → Upto (image-bytes s) old n bs → Upto (image-bytes s) old 128 bs
   idle-places bs n low blank none u =
       upto-past (image-bytes s) old bs n 128 u low
@@ -130,7 +136,8 @@ module _ (s : State) (old : List ℕ) where
       blank-bytes old p j (omega arith) (blank p l h) d
       ∙ sym (place-byte s p j h d ∙ ap (λ (x : ℕ). getD (bytes 2 x ++ 0 ∷ 0 ∷ []) j 0) (none p l h) ∙ no-byte j d))
 
-  pub idle-transitions : (bs : List ℕ) (n : ℕ) → n ≤ 64 → ((t : ℕ) → n ≤ t → t < 64 → (j : ℕ) → j < 4 → getD old (4 * (128 + t) + j) 0 ≡ 0)
+  pub idle-transitions : (bs : List ℕ) (n : ℕ) → n ≤ 64
+      → ((t : ℕ) → n ≤ t → t < 64 → (j : ℕ) → j < 4 → getD old (4 * (128 + t) + j) 0 ≡ 0)
       → ((t : ℕ) → n ≤ t → t < 64 → s .counter t ≡ 0) → ((k : ℕ) → s .order k ≡ false)
       → Upto (image-bytes s) old (128 + n) bs → Upto (image-bytes s) old 192 bs
   idle-transitions bs n low blank none unordered u =
@@ -143,7 +150,8 @@ module _ (s : State) (old : List ℕ) where
       (blank (i - 128) past small j d
       ∙ sym
       (transition-byte s (i - 128) j small d
-      ∙ rw (unordered (i - 128)) (ap (λ (x : ℕ). getD (bytes 2 x ++ 0 ∷ 0 ∷ []) j 0) (none (i - 128) past small) ∙ no-byte j d))))
+      ∙ rw (unordered (i - 128)) (ap (λ (x : ℕ). getD (bytes 2 x ++ 0 ∷ 0 ∷ []) j 0) (none (i - 128) past small)
+      ∙ no-byte j d))))
 
   -- A place's record, and a transition's.
   pub upto-place : (bs next : List ℕ) (p : ℕ) → p < 128 → Upto (image-bytes s) old p bs → Stored bs p (s .tokens p) next
@@ -152,7 +160,8 @@ module _ (s : State) (old : List ℕ) where
       upto-more (image-bytes s) old bs next p (s .tokens p) u w (λ j l. place-byte s p j h l)
 
   pub upto-transition : (bs next : List ℕ) (t : ℕ) → t < 64 → ((k : ℕ) → s .order k ≡ false)
-      → Upto (image-bytes s) old (128 + t) bs → Stored bs (128 + t) (s .counter t) next → Upto (image-bytes s) old (128 + (t + 1)) next
+      → Upto (image-bytes s) old (128 + t) bs → Stored bs (128 + t) (s .counter t) next
+      → Upto (image-bytes s) old (128 + (t + 1)) next
   upto-transition bs next t h none u w =
       let on : 128 + t + 1 ≡ 128 + (t + 1) = omega arith in
       rw on at

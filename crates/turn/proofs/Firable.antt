@@ -1,36 +1,33 @@
--- The firable by the rows are the firable by the table: a bit of a row is a condition record, and the times are those of the table.
+-- The firable by the rows are the firable by the table: a bit of a row is a condition record, and the times are those
+-- of the table.
 use mathlib.Core.Bool.{Bool, true, false, cond, not, _&&_, _||_, Bool·beq}
 use mathlib.Core.List.{List}
 use mathlib.Core.Path.{_≡_, refl, sym, ap, _∙_}
-use Prim.Native.Nat.{ℕ, _*_, _+_, _≤_, _<_}
+use Prim.Native.Nat.{ℕ, _≤_, _<_}
 use native.Mathlib.Omega.{arith}
-use lib.Dec.{eqb, ltb}
-use lib.ListN.{length, getD}
-use borrow.Author.Tests.{eqb-true, eqb-false, eq-eqb, lt-ltb, not-true}
+use lib.Dec.{eqb}
+use lib.ListN.{getD}
+use borrow.Author.Tests.{eqb-true, eq-eqb, lt-ltb, not-true}
 use Rattle.meaning.specs.Below.{some}
 use Rattle.meaning.specs.Bytes.{bit}
-use Rattle.meaning.specs.Answer.{Answer}
 use Rattle.meaning.specs.Says.{Same}
 use Rattle.meaning.specs.Table.{Table, table, is, transition, timing}
-use Rattle.meaning.specs.Image.{State}
-use Rattle.meaning.specs.Cycle.{enabled, counted, falling, as-wanted, in-time, firable}
-use Rattle.meaning.proofs.Bool.{and-left, and-right, and-true, not-both, same-test}
+use Rattle.meaning.specs.Cycle.{enabled, counted, falling, as-wanted, firable}
+use Rattle.meaning.proofs.Bool.{and-left, and-right, and-true, same-test}
 use Rattle.meaning.proofs.Below.{some-intro, some-elim, none-intro, none-elim, every-intro}
-use Rattle.meaning.proofs.Reflect.{not-true-false}
 use Rattle.meaning.proofs.Pays.{condition-met}
-use Rattle.meaning.proofs.Same.{of-kind}
-use Rattle.meaning.proofs.Sound.{Sound-table, check-sound, same-record}
-use Rattle.sets.proofs.Bits.{bit-zero}
+use Rattle.meaning.proofs.Sound.{Sound-table, same-record}
 use Rattle.rows.specs.declared.Declared.{Declared}
-use Rattle.rows.specs.Rows.{looks, wanted-true, limit-of, first-of, last-of}
+use Rattle.rows.specs.Rows.{looks, wanted-true}
 use Rattle.rows.specs.Filed.{kept-in, joins, Net-of}
 use Rattle.rows.proofs.Shown.{two-low}
 use Rattle.edge.specs.Edges.{as-asked, Firable-asks, Raises, Ready, Able}
-use Rattle.rows.proofs.Arcs.{joins-test}
+use Rattle.rows.proofs.Arcs.{accepted-sound, joins-test}
+use Rattle.rows.proofs.Times.{limit-timed}
 use Rattle.turn.specs.declared.Net.{Net}
-use Rattle.turn.specs.Turn.{Laid, held}
-use Rattle.turn.proofs.Rows.{no-bit}
-use Rattle.turn.proofs.Times.{limit-timed, count-is, count-low, in-time-is}
+use Rattle.state.specs.Holds.{held}
+use Rattle.turn.specs.Turn.{Laid}
+use Rattle.turn.proofs.Times.{count-is, count-low, in-time-is}
 
 -- A test behind another that need not pass.
 behind : (a b : Bool) → (a ≡ true → b ≡ true) → (not a || b) ≡ true
@@ -54,7 +51,7 @@ module _ {bs : List ℕ} {n : ℕ} {rows : List ℕ} {w s : List (List ℕ)} {he
   tb = table bs
 
   sound : Sound-table tb
-  sound = check-sound bs (ap (λ (a : Answer). a .number) (net .sound))
+  sound = accepted-sound bs (net .sound)
 
   -- Record r is condition k of transition t.
   abbrev Looks : ℕ → ℕ → ℕ → Type 0
@@ -65,7 +62,9 @@ module _ {bs : List ℕ} {n : ℕ} {rows : List ℕ} {w s : List (List ℕ)} {he
     looked-record : bit (looks rows t) k ≡ true → (r : ℕ) × Looks t k r
     unfolding kept-in
     looked-record e =
-        let w = some-elim (tb .records) (λ r. kept-in tb 4 r && joins tb t k r) (sym (net .filed .rowed .holds 4 t k (omega arith) (omega (arith, ht)) hk) ∙ e) in
+        let w =
+        some-elim (tb .records) (λ r. kept-in tb 4 r && joins tb t k r)
+        (sym (net .filed .rowed .holds 4 t k (omega arith) (omega (arith, ht)) hk) ∙ e) in
         let j = joins-test tb t k (w .0) (and-right (kept-in tb 4 (w .0)) _ (w .2)) in
         (w .0, (w .1, eqb-true (tb .kind (w .0)) 4 (and-left (kept-in tb 4 (w .0)) _ (w .2)), j .0, j .1))
 
@@ -73,15 +72,21 @@ module _ {bs : List ℕ} {n : ℕ} {rows : List ℕ} {w s : List (List ℕ)} {he
     unfolding kept-in
     record-looked r n =
         net .filed .rowed .holds 4 t k (omega arith) (omega (arith, ht)) hk
-        ∙ some-intro (tb .records) (λ r. kept-in tb 4 r && joins tb t k r) r (n .0) (and-true (eq-eqb _ _ (n .1)) (and-true (eq-eqb _ _ (n .2)) (eq-eqb _ _ (n .3))))
+        ∙ some-intro (tb .records) (λ r. kept-in tb 4 r && joins tb t k r) r (n .0)
+        (and-true (eq-eqb _ _ (n .1)) (and-true (eq-eqb _ _ (n .2)) (eq-eqb _ _ (n .3))))
 
     true-record : bit (wanted-true rows t) k ≡ true → (r : ℕ) × Looks t k r × (tb .sort r ≡ 0)
     unfolding kept-in
     true-record e =
-        let w = some-elim (tb .records) (λ r. kept-in tb 5 r && joins tb t k r) (sym (net .filed .rowed .holds 5 t k (omega arith) (omega (arith, ht)) hk) ∙ e) in
+        let w =
+        some-elim (tb .records) (λ r. kept-in tb 5 r && joins tb t k r)
+        (sym (net .filed .rowed .holds 5 t k (omega arith) (omega (arith, ht)) hk) ∙ e) in
         let kept = and-left (kept-in tb 5 (w .0)) (joins tb t k (w .0)) (w .2) in
-        let j = joins-test tb t k (w .0) (and-right (kept-in tb 5 (w .0)) _ (w .2)) in
-        (w .0, (w .1, eqb-true (tb .kind (w .0)) 4 (and-left (is tb 4 (w .0)) _ kept), j .0, j .1), eqb-true (tb .sort (w .0)) 0 (and-right (is tb 4 (w .0)) _ kept))
+        let j = joins-test tb t k (w .0) (and-right (kept-in tb 5 (w .0)) _ (w .2)) in (
+          w .0,
+          (w .1, eqb-true (tb .kind (w .0)) 4 (and-left (is tb 4 (w .0)) _ kept), j .0, j .1),
+          eqb-true (tb .sort (w .0)) 0 (and-right (is tb 4 (w .0)) _ kept),
+        )
 
     record-true : (r : ℕ) → Looks t k r → tb .sort r ≡ 0 → bit (wanted-true rows t) k ≡ true
     unfolding kept-in
@@ -123,7 +128,9 @@ module _ {bs : List ℕ} {n : ℕ} {rows : List ℕ} {w s : List (List ℕ)} {he
     -- Conditions are as the two rows ask exactly if they are as wanted.
     asked-is : (word : ℕ) → as-asked (looks rows t) (wanted-true rows t) word ≡ as-wanted tb word t
     unfolding as-asked as-wanted
-    asked-is word = same-test _ (as-wanted tb word t) forth (λ e. ap not (none-intro 64 amiss (λ k l. back e k l (bit (looks rows t) k) refl)))
+    asked-is word =
+        same-test _ (as-wanted tb word t) forth (λ e. ap not (none-intro 64 amiss
+        (λ k l. back e k l (bit (looks rows t) k) refl)))
       where
         amiss : ℕ → Bool
         amiss k = bit (looks rows t) k && cond (bit (wanted-true rows t) k) (not (bit word k)) (bit word k)
@@ -135,10 +142,12 @@ module _ {bs : List ℕ} {n : ℕ} {rows : List ℕ} {w s : List (List ℕ)} {he
             behind (is tb 4 r && eqb (tb .one r) t) _
             (λ b. met r m (eqb-true _ _ (and-left (is tb 4 r) _ b)) (eqb-true _ _ (and-right (is tb 4 r) _ b))))
           where
-            met : (r : ℕ) → r < tb .records → tb .kind r ≡ 4 → tb .one r ≡ t → Bool·beq (bit word (tb .two r)) (eqb (tb .sort r) 0) ≡ true
+            met : (r : ℕ) → r < tb .records → tb .kind r ≡ 4 → tb .one r ≡ t
+                → Bool·beq (bit word (tb .two r)) (eqb (tb .sort r) 0) ≡ true
             met r m k o =
                 met-by (eqb (tb .sort r) 0) (bit word (tb .two r))
-                (sym (rw (looked r m k o, wanted-bit r m k o)) ∙ none-elim 64 amiss (not-true _ e) (tb .two r) (low r m k o))
+                (sym (rw (looked r m k o, wanted-bit r m k o))
+                ∙ none-elim 64 amiss (not-true _ e) (tb .two r) (low r m k o))
 
         back : as-wanted tb word t ≡ true → (k : ℕ) → k < 64 → (b : Bool) → bit (looks rows t) k ≡ b
             → (b && cond (bit (wanted-true rows t) k) (not (bit word k)) (bit word k)) ≡ false
@@ -147,7 +156,11 @@ module _ {bs : List ℕ} {n : ℕ} {rows : List ℕ} {w s : List (List ℕ)} {he
             let w = looked-record t k h l z in
             let r : ℕ = w .0 in
             let n : Looks t k r = w .1 in
-            rw (← n .3, wanted-bit r (n .0) (n .1) (n .2), condition-met tb word t e r (n .0) (eq-eqb _ _ (n .1)) (n .2)) (agrees (eqb (tb .sort r) 0))
+            rw (
+              ← n .3,
+              wanted-bit r (n .0) (n .1) (n .2),
+              condition-met tb word t e r (n .0) (eq-eqb _ _ (n .1)) (n .2),
+            ) (agrees (eqb (tb .sort r) 0))
 
 module _ {bs : List ℕ} {net : Net} {rows arcs times : List ℕ} {w s : List (List ℕ)} {heads posts : List ℕ}
     (laid : Laid bs net rows arcs times w s heads posts) where
@@ -161,22 +174,26 @@ module _ {bs : List ℕ} {net : Net} {rows arcs times : List ℕ} {w s : List (L
       }
 
   module _ (tokens counters : List ℕ) (orders on : ℕ)
-      (on-is : (t : ℕ) → t < 64 → bit on t ≡ (transition (table bs) t && enabled (table bs) (λ p. getD tokens p 0) t)) {counters′ : List ℕ}
+      (on-is : (t : ℕ) → t < 64 → bit on t ≡ (transition (table bs) t && enabled (table bs) (λ p. getD tokens p 0) t))
+      {counters′ : List ℕ}
       (raises : Raises (net .timed) orders on times counters counters′) where
     -- The counters after the falling edge.
     pub counts-are : (t : ℕ) → t < 64 → getD counters′ t 0 ≡ counted (table bs) (held tokens counters orders) t
     counts-are t l =
         raises .holds t l
-        ∙ count-is bs (laid .net-of .sound) (laid .net-of .filed .timed) t l (held tokens counters orders) orders on (net .timed) (getD counters t 0) refl refl
+        ∙ count-is (sound (laid .net-of)) t (laid .net-of .filed .timed) l (held tokens counters orders) orders on
+        (net .timed) (getD counters t 0) refl refl
         (laid .timed-is t l) (on-is t l)
 
     pub counts-low : ((t : ℕ) → t < 64 → getD counters t 0 ≤ 65535) → (t : ℕ) → t < 64 → getD counters′ t 0 ≤ 65535
     counts-low small t l =
         rw (raises .holds t l)
-        (count-low bs (laid .net-of .sound) (laid .net-of .filed .timed) t l orders on (net .timed) (getD counters t 0) (small t l))
+        (count-low (sound (laid .net-of)) t (laid .net-of .filed .timed) l orders on (net .timed) (getD counters t 0)
+        (small t l))
 
     -- The firable at the rising edge.
-    pub able-are : ((t : ℕ) → t < 64 → getD counters t 0 ≤ 65535) → (ready able word : ℕ) → Ready (net .timed) on times counters′ ready
+    pub able-are : ((t : ℕ) → t < 64 → getD counters t 0 ≤ 65535) → (ready able word : ℕ)
+        → Ready (net .timed) on times counters′ ready
         → Able on (net .timed) ready rows word able → (t : ℕ) → t < 64
         → bit able t ≡ firable (table bs) (falling (table bs) (held tokens counters orders)) word t
     unfolding firable falling
@@ -187,14 +204,17 @@ module _ {bs : List ℕ} {net : Net} {rows arcs times : List ℕ} {w s : List (L
           ready-is t,
           on-is t l,
           laid .timed-is t l,
-          limit-timed bs (laid .net-of .sound) (laid .net-of .filed .timed) t l,
+          limit-timed (sound (laid .net-of)) t (laid .net-of .filed .timed) l,
           asked-is (laid .net-of) t l word,
           ← counts-are t l,
-          ← in-time-is bs (laid .net-of .sound) (laid .net-of .filed .timed) t l (getD counters′ t 0) (counts-low small t l),
+          ← in-time-is (sound (laid .net-of)) t (laid .net-of .filed .timed) l (getD counters′ t 0)
+              (counts-low small t l),
         )
-        (order (transition (table bs) t) (enabled (table bs) (λ p. getD tokens p 0) t) (eqb (timing (table bs) t) 0) _ (as-wanted (table bs) word t))
+        (order (transition (table bs) t) (enabled (table bs) (λ p. getD tokens p 0) t) (eqb (timing (table bs) t) 0) _
+        (as-wanted (table bs) word t))
       where
-        order : (a b z i c : Bool) → ((((a && b) && not (not z)) || ((not z && (a && b)) && i)) && c) ≡ (a && ((b && c) && (z || i)))
+        order : (a b z i c : Bool) → ((((a && b) && not (not z)) || ((not z && (a && b)) && i)) && c)
+            ≡ (a && ((b && c) && (z || i)))
         order true true true i true = refl
         order true true true i false = refl
         order true true false true true = refl

@@ -1,45 +1,46 @@
 -- What the parts of a cycle say of the rows is what the meaning says of the table.
 use mathlib.Core.Bool.{Bool, true, false, cond, not, _&&_, _||_}
 use mathlib.Core.List.{List}
-use mathlib.Core.Path.{_≡_, refl, sym, ap, ap₂, _∙_, fun-ext}
-use Prim.Native.Nat.{ℕ, _+_, _-_, _*_, _^_, _≤_, _<_}
+use mathlib.Core.Path.{_≡_, refl, sym, ap, _∙_, fun-ext}
+use Prim.Native.Nat.{ℕ, _+_, _*_, _^_, _≤_, _<_}
 use native.Mathlib.Omega.{arith}
-use lib.Bits.{bitAnd}
 use lib.Dec.{ltb, eqb}
 use lib.ListN.{length, getD}
 use borrow.Author.Tests.{eqb-true, ltb-true, ltb-false}
-use Rattle.meaning.specs.Below.{some, first, within}
+use Rattle.meaning.specs.Below.{some}
 use Rattle.meaning.specs.Bytes.{bit, bits}
-use Rattle.meaning.specs.Table.{Table, table, total, is, basic, post, transition, timing, ceiling}
+use Rattle.meaning.specs.Table.{Table, table, total, is, basic, post, transition, ceiling}
 use Rattle.meaning.specs.Image.{State}
-use Rattle.meaning.specs.Cycle.{enabled, active, counted, falling, firable, withdrawn, added, fired, rising, marked, starved, reset, executed, overfull}
+use Rattle.meaning.specs.Cycle.{enabled, active, counted, falling, firable, withdrawn, added, fired, rising, marked}
+use Rattle.meaning.specs.Cycle.{starved, reset, executed, overfull}
 use Rattle.meaning.proofs.Bool.{and-left, and-right, not-both}
-use Rattle.meaning.proofs.Below.{some-same, some-elim, first-same, first-before, sum-zero}
+use Rattle.meaning.proofs.Below.{some-same, first-same, first-before, sum-zero}
 use Rattle.meaning.proofs.Reflect.{not-true-false}
 use Rattle.meaning.proofs.Fired.{rounds-out}
 use Rattle.meaning.proofs.Rows.{transition-decides}
 use Rattle.meaning.proofs.Accepted.{accepted-well}
 use Rattle.meaning.proofs.Demand3.{start-pays}
 use Rattle.sets.proofs.Bits.{bit-under, bit-out, bits-bit, bits-low, same-set}
-use Rattle.rows.specs.Rows.{inputs, takers, actions, functions, cell, limit-of}
-use Rattle.rows.specs.Filed.{Sizes}
-use Rattle.levels.specs.Levels.{lacks, Levels}
+use Rattle.rows.specs.Rows.{inputs, takers, actions, functions, cell}
+use Rattle.levels.specs.Levels.{Levels}
 use Rattle.firing.specs.Fired.{Fires}
-use Rattle.rows.proofs.Arcs.{accepted-laid, ranges}
+use Rattle.rows.proofs.Arcs.{accepted-sound, accepted-laid, ranges}
+use Rattle.rows.proofs.Times.{limit-timed}
 use Rattle.firing.proofs.Arcs.{enabled-is}
 use Rattle.firing.proofs.Taken.{taken-is}
-use Rattle.firing.proofs.Meaning.{near, fires-is}
+use Rattle.firing.proofs.Meaning.{fires-is}
 use Rattle.marking.specs.declared.Moved.{Moved}
 use Rattle.marking.specs.declared.Settled.{Settled}
 use Rattle.marking.specs.Moves.{put-at, lacking-at, Chains, Leads, Tallied}
-use Rattle.marking.specs.Sweep.{rest-at, new-at}
+use Rattle.marking.specs.Sweep.{new-at}
 use Rattle.marking.specs.Settle.{Settle-asks, Settles}
 use Rattle.marking.proofs.ByTable.{chained, put-added, put-low, taken-some}
 use Rattle.turn.specs.declared.Net.{Net}
-use Rattle.turn.specs.declared.Outcome.{Outcome}
-use Rattle.turn.specs.Turn.{Laid, Poised, held, fires, Stepped}
-use Rattle.turn.proofs.Times.{limit-timed}
-use Rattle.turn.proofs.Rows.{some-all, no-bit, actions-is, active-bit, functions-is, starved-is, few-records, weight-low, weighty}
+use Rattle.sets.proofs.Some.{some-short}
+use Rattle.state.specs.Holds.{held}
+use Rattle.turn.specs.Turn.{Laid, Poised, fires, Stepped}
+use Rattle.turn.proofs.Rows.{no-bit, actions-is, active-bit, functions-is, starved-is, few-records, weight-low}
+use Rattle.turn.proofs.Rows.{weighty}
 
 -- The set with what passes p is the number made of p.
 bits-of : (x : ℕ) (p : ℕ → Bool) → x < 2 ^ 64 → ((k : ℕ) → k < 64 → bit x k ≡ p k) → x ≡ bits p
@@ -50,9 +51,10 @@ module _ {bs : List ℕ} {net : Net} {rows arcs times : List ℕ} {w s : List (L
   abbrev tb : Table
   tb = table bs
 
-  -- What the parts of a cycle have told, from a state and what is kept of its places: whom the places hold back, which actions they activate, the firable, the
-  -- set that fires, and what it takes and puts.
-  pub record Told (tokens counters : List ℕ) (orders word : ℕ) (kept levels counters′ : List ℕ) (shut shown on able f : ℕ) (taken put : List ℕ) (moved : Moved)
+  -- What the parts of a cycle have told, from a state and what is kept of its places: whom the places hold back, which
+  -- actions they activate, the firable, the set that fires, and what it takes and puts.
+  pub record Told (tokens counters : List ℕ) (orders word : ℕ) (kept levels counters′ : List ℕ)
+      (shut shown on able f : ℕ) (taken put : List ℕ) (moved : Moved)
       : Type 0 where
     pub levels-hold : Levels rows w s tokens kept levels
     pub tokens-low : (p : ℕ) → p < 128 → getD tokens p 0 ≤ 65535
@@ -93,41 +95,45 @@ module _ {bs : List ℕ} {net : Net} {rows arcs times : List ℕ} {w s : List (L
   -- What tallying asks for of the chains.
   pub chains : (c : Chains posts) × ((t : ℕ) → t < 64 → Leads (c .arc) (getD heads t 0))
   chains =
-      chained (laid .net-of .filed .posted) (laid .sizes .posts-are) (λ r h e. ranges (accepted-laid (laid .net-of)) r h (post-range r h e) .0)
-
-  -- A transition is timed exactly if its counter rises.
-  pub limit-timing : (t : ℕ) → t < 64 → not (eqb (limit-of times t) 0) ≡ not (eqb (timing tb t) 0)
-  limit-timing t l = ap not (limit-timed bs (laid .net-of .sound) (laid .net-of .filed .timed) t l)
+      chained (laid .net-of .filed .posted) (laid .sizes .posts-are)
+      (λ r h e. ranges (accepted-laid (laid .net-of)) r h (post-range r h e) .0)
 
   -- Whom the places hold back is not enabled.
   pub on-bit : (tokens kept levels : List ℕ) (shut on : ℕ) → Levels rows w s tokens kept levels
-      → ((t : ℕ) → bit shut t ≡ some (8 * net .eights) (λ p. bit (getD kept p 0) t)) → ((t : ℕ) → bit on t ≡ (bit (net .known) t && not (bit shut t)))
+      → ((t : ℕ) → bit shut t ≡ some (8 * net .eights) (λ p. bit (getD kept p 0) t))
+      → ((t : ℕ) → bit on t ≡ (bit (net .known) t && not (bit shut t)))
       → (t : ℕ) → t < 64 → bit on t ≡ (transition tb t && enabled tb (λ p. getD tokens p 0) t)
   on-bit tokens kept levels shut on hold shut-is on-is t l =
       on-is t
       ∙ rw (
         laid .known-is t l,
         shut-is t,
-        some-same (8 * net .eights) (λ p. bit (getD kept p 0) t) by-place (λ p h. at p (omega (arith, h, laid .net-of .few))),
-        some-all (8 * net .eights) 128 by-place (laid .net-of .few) (λ p past h. rw (no-bit (laid .net-of) 0 p t (omega arith) past h l)),
+        some-same (8 * net .eights) (λ p. bit (getD kept p 0) t) by-place
+            (λ p h. at p (omega (arith, h, laid .net-of .few))),
+        some-short (8 * net .eights) 128 by-place (laid .net-of .few)
+            (λ p past h. rw (no-bit (laid .net-of) 0 p t (omega arith) past h l)),
         enabled-is (laid .net-of) (λ p. getD tokens p 0) t l,
       )
     where
       by-place : ℕ → Bool
-      by-place p = bit (inputs rows p) t && cond (eqb (cell s p t) 2) (lib.Dec.leb (cell w p t) (getD tokens p 0)) (ltb (getD tokens p 0) (cell w p t))
+      by-place p =
+          bit (inputs rows p) t && cond (eqb (cell s p t) 2) (lib.Dec.leb (cell w p t) (getD tokens p 0))
+          (ltb (getD tokens p 0) (cell w p t))
 
       at : (p : ℕ) → p < 128 → bit (getD kept p 0) t ≡ by-place p
       at p h = hold .spans p h .held-is (getD tokens p 0) (hold .inside p h .0) (hold .inside p h .1) t
 
   -- Whoever fires is a transition of the table, so it has its rows.
-  pub fired-known : {tokens : List ℕ} (counters : List ℕ) (orders word : ℕ) {able f : ℕ} → ((t : ℕ) → t < 64 → bit able t ≡ firable tb (falling tb (held tokens counters orders)) word t)
+  pub fired-known : {tokens : List ℕ} (counters : List ℕ) (orders word : ℕ) {able f : ℕ}
+      → ((t : ℕ) → t < 64 → bit able t ≡ firable tb (falling tb (held tokens counters orders)) word t)
       → f < 2 ^ 64 → Fires able tokens rows arcs w s f → (t : ℕ) → bit f t ≡ true → (t < 64) × (transition tb t ≡ true)
   unfolding firable
   fired-known counters orders word {able} {f} ables low fires-it t e =
       let l : t < 64 = bit-under f t low e in
       (l, and-left (transition tb t) _ (sym (ables t l) ∙ and-left (bit able t) _ (sym (fires-it .meets t l) ∙ e)))
 
-  module _ {tokens counters : List ℕ} {orders word : ℕ} {kept levels counters′ : List ℕ} {shut shown on able f : ℕ} {taken put : List ℕ} {moved : Moved}
+  module _ {tokens counters : List ℕ} {orders word : ℕ} {kept levels counters′ : List ℕ} {shut shown on able f : ℕ}
+      {taken put : List ℕ} {moved : Moved}
       (told : Told tokens counters orders word kept levels counters′ shut shown on able f taken put moved) where
     abbrev h : State
     h = held tokens counters orders
@@ -135,7 +141,9 @@ module _ {bs : List ℕ} {net : Net} {rows arcs times : List ℕ} {w s : List (L
     -- The set that fires is the fired set.
     fired-bit : (t : ℕ) → t < 64 → bit f t ≡ fires tb h word t
     unfolding falling
-    fired-bit = fires-is (laid .net-of) (laid .rivals) (falling tb h) tokens (λ p l. refl) word able (told .ables) f (told .fires-it)
+    fired-bit =
+        fires-is (laid .net-of) (laid .rivals) (falling tb h) tokens (λ p l. refl) word able (told .ables) f
+        (told .fires-it)
 
     -- So both sets are one.
     one-set : bit f ≡ fires tb h word
@@ -154,7 +162,8 @@ module _ {bs : List ℕ} {net : Net} {rows arcs times : List ℕ} {w s : List (L
     is-put p l = told .tallied .put-is p l ∙ put-added (laid .net-of .filed .posted) (post-low) f p
 
     -- Nobody moves a token at a place that no arc names.
-    nothing-at : (q : ℕ → Bool) (p : ℕ) → 8 * net .eights ≤ p → ((r : ℕ) → q r ≡ true → tb .one r ≡ p) → total tb q (tb .four) ≡ 0
+    nothing-at : (q : ℕ → Bool) (p : ℕ) → 8 * net .eights ≤ p → ((r : ℕ) → q r ≡ true → tb .one r ≡ p)
+        → total tb q (tb .four) ≡ 0
     unfolding total
     nothing-at q p past at =
         sum-zero (tb .records) _
@@ -165,11 +174,13 @@ module _ {bs : List ℕ} {net : Net} {rows arcs times : List ℕ} {w s : List (L
     unfolding falling
     pays p l =
         let there = start-pays tb (accepted-well bs (laid .net-of .sound)) (falling tb h) word p in
-        let same : getD taken p 0 ≡ withdrawn tb (fires tb h word) p = is-taken p l ∙ ap (λ (F : ℕ → Bool). withdrawn tb F p) one-set in
+        let same : getD taken p 0 ≡ withdrawn tb (fires tb h word) p =
+        is-taken p l ∙ ap (λ (F : ℕ → Bool). withdrawn tb F p) one-set in
         rw same there
 
     -- What settling asks for.
-    pub settle-asks : length tokens ≡ 128 → Settle-asks (8 * net .eights) (moved .lack) rows w s tokens kept levels taken put
+    pub settle-asks : length tokens ≡ 128 → Settle-asks (8 * net .eights) (moved .lack) rows w s tokens kept levels
+        taken put
     unfolding withdrawn added
     settle-asks size =
         record {
@@ -186,18 +197,21 @@ module _ {bs : List ℕ} {net : Net} {rows arcs times : List ℕ} {w s : List (L
           none-taken = λ p past l.
               is-taken p l
               ∙ nothing-at (λ r. basic tb r && eqb (tb .one r) p && bit f (tb .two r)) p past
-              (λ r e. eqb-true (tb .one r) p (and-right (basic tb r) (eqb (tb .one r) p) (and-left (basic tb r && eqb (tb .one r) p) (bit f (tb .two r)) e)));
+              (λ r e. eqb-true (tb .one r) p (and-right (basic tb r) (eqb (tb .one r) p)
+              (and-left (basic tb r && eqb (tb .one r) p) (bit f (tb .two r)) e)));
           none-put = λ p past l.
               is-put p l
               ∙ nothing-at (λ r. post tb r && eqb (tb .one r) p && bit f (tb .two r)) p past
-              (λ r e. eqb-true (tb .one r) p (and-right (post tb r) (eqb (tb .one r) p) (and-left (post tb r && eqb (tb .one r) p) (bit f (tb .two r)) e)));
+              (λ r e. eqb-true (tb .one r) p (and-right (post tb r) (eqb (tb .one r) p)
+              (and-left (post tb r && eqb (tb .one r) p) (bit f (tb .two r)) e)));
           levels-hold = told .levels-hold;
           lack-is = λ j.
               told .tallied .lack-is j
               ∙ some-same 128 _ _
               (λ p l.
               ap (λ (b : Bool). b && bit (lacking-at kept p) j)
-              (sym (ap (ltb 0) (told .tallied .taken-is p l) ∙ taken-some f rows w p (λ t k e. weighty (laid .net-of) p t l k e))));
+              (sym (ap (ltb 0) (told .tallied .taken-is p l)
+              ∙ taken-some f rows w p (λ t k e. weighty (laid .net-of) p t l k e))));
         }
 
     -- The new tokens are those of the new marking.
@@ -207,9 +221,11 @@ module _ {bs : List ℕ} {net : Net} {rows arcs times : List ℕ} {w s : List (L
         let here : new-at tokens taken put p ≡ marked tb (h .tokens) (bit f) p = rw (is-taken p l, is-put p l) in
         here ∙ ap (λ (F : ℕ → Bool). marked tb (h .tokens) F p) one-set
 
-    module _ {tokens′ kept′ levels′ taken′ put′ : List ℕ} {x : Settled} (settles : Settles rows w s tokens taken put tokens′ kept′ levels′ taken′ put′ x) where
+    module _ {tokens′ kept′ levels′ taken′ put′ : List ℕ} {x : Settled}
+        (settles : Settles rows w s tokens taken put tokens′ kept′ levels′ taken′ put′ x) where
       -- The orders are those after the rising edge.
-      order-is : (orders′ : ℕ) → ((t : ℕ) → bit orders′ t ≡ (bit (net .timed) t && (bit f t || bit (x .starved) t))) → (t : ℕ) → t < 64
+      order-is : (orders′ : ℕ) → ((t : ℕ) → bit orders′ t ≡ (bit (net .timed) t && (bit f t || bit (x .starved) t)))
+          → (t : ℕ) → t < 64
           → bit orders′ t ≡ reset tb (h .tokens) (fires tb h word) t
       unfolding reset
       order-is orders′ after t l =
@@ -217,7 +233,7 @@ module _ {bs : List ℕ} {net : Net} {rows arcs times : List ℕ} {w s : List (L
           after t
           ∙ rw (
             laid .timed-is t l,
-            limit-timing t l,
+            ap not (limit-timed (accepted-sound bs (laid .net-of .sound)) t (laid .net-of .filed .timed) l),
             settles .starved-are t,
             starved-is (laid .net-of) (λ p. getD tokens p 0) (bit f) (λ p. getD taken p 0) is-taken t l,
           ) in
@@ -226,7 +242,9 @@ module _ {bs : List ℕ} {net : Net} {rows arcs times : List ℕ} {w s : List (L
       -- The whole cycle.
       pub stepped : shown < 2 ^ 64 → moved .functions < 2 ^ 64 → (orders′ : ℕ)
           → ((t : ℕ) → bit orders′ t ≡ (bit (net .timed) t && (bit f t || bit (x .starved) t)))
-          → Stepped tb h word (record { fired = f; actions = shown; functions = moved .functions; full = x .full; orders = orders′ }) tokens′ counters′
+          → Stepped tb h word
+          (record { fired = f; actions = shown; functions = moved .functions; full = x .full; orders = orders′ })
+          tokens′ counters′
       unfolding falling rising overfull ceiling
       stepped shown-low functions-low orders′ after =
           record {
@@ -237,7 +255,8 @@ module _ {bs : List ℕ} {net : Net} {rows arcs times : List ℕ} {w s : List (L
                 (λ k l.
                 told .tallied .functions-are k
                 ∙ functions-is (laid .net-of) (bit f) k l ∙ ap (λ (F : ℕ → Bool). executed tb F k) one-set);
-            full-is = settles .full-is ∙ first-same 128 _ _ (λ p l. ap (ltb 65535) (settles .tokens-are p l ∙ token-is p l));
+            full-is =
+                settles .full-is ∙ first-same 128 _ _ (λ p l. ap (ltb 65535) (settles .tokens-are p l ∙ token-is p l));
             tokens-are = λ p l. settles .tokens-are p l ∙ token-is p l;
             counters-are = told .counts;
             orders-are = order-is orders′ after;
@@ -251,13 +270,16 @@ module _ {bs : List ℕ} {net : Net} {rows arcs times : List ℕ} {w s : List (L
               (λ p q.
               let low : p < 128 = omega (arith, q, laid .net-of .few) in
               let inside = told .levels-hold .inside p low in
-              active-bit (laid .net-of) (getD tokens p 0) k p (told .levels-hold .spans p low .active-is (getD tokens p 0) (inside .0) (inside .1)))
-              ∙ some-all (8 * net .eights) 128 (λ p. bit (actions rows p) k && ltb 0 (getD tokens p 0)) (laid .net-of .few)
+              active-bit (laid .net-of) (getD tokens p 0) k p (told .levels-hold .spans p low .active-is
+              (getD tokens p 0) (inside .0) (inside .1)))
+              ∙ some-short (8 * net .eights) 128 (λ p. bit (actions rows p) k && ltb 0 (getD tokens p 0))
+              (laid .net-of .few)
               (λ p past q. rw (no-bit (laid .net-of) 3 p k (omega arith) past q l))
               ∙ actions-is (laid .net-of) (λ p. getD tokens p 0) k l
 
       -- All is poised for the next cycle where no place is full.
-      pub poised : length counters′ ≡ 64 → ((t : ℕ) → t < 64 → getD counters′ t 0 ≤ 65535) → 128 ≤ x .full → Poised rows w s tokens′ counters′ kept′ levels′ taken′ put′
+      pub poised : length counters′ ≡ 64 → ((t : ℕ) → t < 64 → getD counters′ t 0 ≤ 65535) → 128 ≤ x .full
+          → Poised rows w s tokens′ counters′ kept′ levels′ taken′ put′
       poised size small none =
           record {
             tokens-size = settles .tokens-size;

@@ -13,6 +13,7 @@ use Rattle.meaning.specs.Cycle.{falling, fired, rising, active, executed, overf
 use Rattle.rows.specs.declared.Declared.{Declared}
 use Rattle.rows.specs.Rows.{looks, limit-of}
 use Rattle.rows.specs.Filed.{Sizes, Net-of}
+use Rattle.state.specs.Holds.{held}
 use Rattle.arcs.specs.Arcs.{Rivals}
 use Rattle.levels.specs.Levels.{Levels}
 use Rattle.turn.specs.declared.Net.{Net}
@@ -49,11 +50,6 @@ pub record Step-asks (net : Net) (tokens counters kept levels taken put rows arc
   pub laid : Laid bs net rows arcs times w s heads posts
   pub poised : Poised rows w s tokens counters kept levels taken put
 
--- The state that the arrays hold.
-abbrev pub held : List ℕ → List ℕ → ℕ → State
-held tokens counters orders =
-    record { tokens = λ p. getD tokens p 0; counter = λ t. getD counters t 0; order = λ t. bit orders t }
-
 -- What fires in a cycle from a state with a word.
 abbrev pub fires : Table → State → ℕ → ℕ → Bool
 fires tb h word = within (fired tb (falling tb h) word)
@@ -69,8 +65,9 @@ pub record Stepped (tb : Table) (h : State) (word : ℕ) (r : Outcome) (tokens c
   pub orders-are : (t : ℕ) → t < 64 → bit (r .orders) t ≡ rising tb (falling tb h) (fires tb h word) .order t
 
 -- Whatever table the rows are of, this is its cycle; and where no place is full, all is poised for the next.
-pub record Steps (net : Net) (tokens counters : List ℕ) (orders word : ℕ) (rows arcs times : List ℕ) (w s : List (List ℕ))
-    (heads posts : List ℕ) (r : Outcome) (tokens′ counters′ kept′ levels′ taken′ put′ : List ℕ) : Type 0 where
+pub record Steps (net : Net) (tokens counters : List ℕ) (orders word : ℕ) (rows arcs times : List ℕ)
+    (w s : List (List ℕ)) (heads posts : List ℕ) (r : Outcome) (tokens′ counters′ kept′ levels′ taken′ put′ : List ℕ)
+    : Type 0 where
   pub stepped : (bs : List ℕ) → Laid bs net rows arcs times w s heads posts
       → Stepped (table bs) (held tokens counters orders) word r tokens′ counters′
   pub poised : 128 ≤ r .full → Poised rows w s tokens′ counters′ kept′ levels′ taken′ put′

@@ -1,9 +1,8 @@
 // One cycle over the rows of an accepted table: the falling edge, then the rising edge.
-ghost use mathlib.Core.Path.{_≡_};
 ghost use Rattle.turn.specs.Turn.{Step-asks, Steps};
 
-// What the cycles ask of a net beside its rows: how many eights its numbers fill, the declared transitions, those that are timed, those with conditions, and
-// those with rivals.
+// What the cycles ask of a net beside its rows: how many eights its numbers fill, the declared transitions, those that
+// are timed, those with conditions, and those with rivals.
 pub struct Net {
     pub eights: usize,
     pub known: u64,
@@ -12,7 +11,8 @@ pub struct Net {
     pub lower: u64,
 }
 
-// What a cycle comes to: the three sets of its record, the lowest full place (128 if none), and the reset orders after it.
+// What a cycle comes to: the three sets of its record, the lowest full place (128 if none), and the reset orders after
+// it.
 pub struct Outcome {
     pub fired: u64,
     pub actions: u64,
@@ -21,8 +21,9 @@ pub struct Outcome {
     pub orders: u64,
 }
 
-// One cycle from the state of these tokens, counters and orders, with a word. The tokens and counters become those after the cycle, and what is kept of each
-// place goes on to the next; `taken` and `put` are lent empty, and are empty again.
+// One cycle from the state of these tokens, counters and orders, with a word. The tokens and counters become those
+// after the cycle, and what is kept of each place goes on to the next; `taken` and `put` are lent empty, and are empty
+// again.
 pub fn step(
     net: Net,
     tokens: &mut [u32; 128],

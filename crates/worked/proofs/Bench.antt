@@ -7,7 +7,7 @@ use Rattle.meaning.specs.Bytes.{number, bytes, bit, bits, cut}
 use Rattle.meaning.specs.Table.{kinds, place, transition, total, ceiling, table}
 use Rattle.meaning.specs.Answer.{decide}
 use Rattle.meaning.specs.Priority.{through, above}
-use Rattle.meaning.specs.Defined.{bad-length, bad-kind, interval, bad-field, same, twice, fault, faulty, names-place, names-transition, names-second, unknown, empty, arc-at-place, arc-at-transition, isolated, circle, some-two, conflict, complementary, inhibited, settled, unsettled, clashes, table-checks}
+use Rattle.meaning.specs.Defined.{bad-length, bad-kind, interval, bad-field, same, twice, fault, faulty, names-place, names-transition, names-second, unknown, empty, arc-at-place, arc-at-transition, isolated, circle, some-two, conflict, complementary, inhibited, settled, unsettled, in-unsettled, table-checks}
 use Rattle.meaning.specs.Image.{state, join, image, image-bytes, fresh, wrong-place, most, most-order, wrong-transition, wrong, state-checks}
 use Rattle.meaning.specs.Cycle.{stops, enabled, active, risen, counted, falling, as-wanted, in-time, firable, withdrawn, added, residual, rule, rounds, fired, marked, executed, starved, reset, rising, record-of, cycle, overfull}
 use Rattle.meaning.specs.Calls.{start-checks, start, words-of, word-checks, run-checks, trace, run}
@@ -16,16 +16,16 @@ use Rattle.meaning.specs.Nets.{N, N-unsettled, net7, net8, net6, alike, word-by
 -- The cases of net N as printed and nets 1 to 5, and of nets 6 to 10. Each is a computation of its own, since one
 -- alone has steps enough.
 first-half : all-pass nets-1-to-5 ≡ true
-unfolding some every sum first members within number bytes bit bits cut kinds place transition total ceiling table decide through above bad-length bad-kind interval bad-field same twice fault faulty names-place names-transition names-second unknown empty arc-at-place arc-at-transition isolated circle some-two conflict complementary inhibited settled unsettled clashes table-checks state join image image-bytes fresh wrong-place most most-order wrong-transition wrong state-checks stops enabled active risen counted falling as-wanted in-time firable withdrawn added residual rule rounds fired marked executed starved reset rising record-of cycle overfull start-checks start words-of word-checks run-checks trace run N N-unsettled net7 net8 net6 alike word-bytes sets-at counts-of passes net5 net9 net10 nets-1-to-5 nets-6-to-10 all-pass net11 net12 put-back two-full beside
+unfolding some every sum first members within number bytes bit bits cut kinds place transition total ceiling table decide through above bad-length bad-kind interval bad-field same twice fault faulty names-place names-transition names-second unknown empty arc-at-place arc-at-transition isolated circle some-two conflict complementary inhibited settled unsettled in-unsettled table-checks state join image image-bytes fresh wrong-place most most-order wrong-transition wrong state-checks stops enabled active risen counted falling as-wanted in-time firable withdrawn added residual rule rounds fired marked executed starved reset rising record-of cycle overfull start-checks start words-of word-checks run-checks trace run N N-unsettled net7 net8 net6 alike word-bytes sets-at counts-of passes net5 net9 net10 nets-1-to-5 nets-6-to-10 all-pass net11 net12 put-back two-full beside
 first-half = refl
 
 second-half : all-pass nets-6-to-10 ≡ true
-unfolding some every sum first members within number bytes bit bits cut kinds place transition total ceiling table decide through above bad-length bad-kind interval bad-field same twice fault faulty names-place names-transition names-second unknown empty arc-at-place arc-at-transition isolated circle some-two conflict complementary inhibited settled unsettled clashes table-checks state join image image-bytes fresh wrong-place most most-order wrong-transition wrong state-checks stops enabled active risen counted falling as-wanted in-time firable withdrawn added residual rule rounds fired marked executed starved reset rising record-of cycle overfull start-checks start words-of word-checks run-checks trace run N N-unsettled net7 net8 net6 alike word-bytes sets-at counts-of passes net5 net9 net10 nets-1-to-5 nets-6-to-10 all-pass net11 net12 put-back two-full beside
+unfolding some every sum first members within number bytes bit bits cut kinds place transition total ceiling table decide through above bad-length bad-kind interval bad-field same twice fault faulty names-place names-transition names-second unknown empty arc-at-place arc-at-transition isolated circle some-two conflict complementary inhibited settled unsettled in-unsettled table-checks state join image image-bytes fresh wrong-place most most-order wrong-transition wrong state-checks stops enabled active risen counted falling as-wanted in-time firable withdrawn added residual rule rounds fired marked executed starved reset rising record-of cycle overfull start-checks start words-of word-checks run-checks trace run N N-unsettled net7 net8 net6 alike word-bytes sets-at counts-of passes net5 net9 net10 nets-1-to-5 nets-6-to-10 all-pass net11 net12 put-back two-full beside
 second-half = refl
 
 -- Nets 11 and 12, and our own cases.
 pub beside-pass : all-pass beside ≡ true
-unfolding some every sum first members within number bytes bit bits cut kinds place transition total ceiling table decide through above bad-length bad-kind interval bad-field same twice fault faulty names-place names-transition names-second unknown empty arc-at-place arc-at-transition isolated circle some-two conflict complementary inhibited settled unsettled clashes table-checks state join image image-bytes fresh wrong-place most most-order wrong-transition wrong state-checks stops enabled active risen counted falling as-wanted in-time firable withdrawn added residual rule rounds fired marked executed starved reset rising record-of cycle overfull start-checks start words-of word-checks run-checks trace run N N-unsettled net7 net8 net6 alike word-bytes sets-at counts-of passes net5 net9 net10 nets-1-to-5 nets-6-to-10 all-pass net11 net12 put-back two-full beside
+unfolding some every sum first members within number bytes bit bits cut kinds place transition total ceiling table decide through above bad-length bad-kind interval bad-field same twice fault faulty names-place names-transition names-second unknown empty arc-at-place arc-at-transition isolated circle some-two conflict complementary inhibited settled unsettled in-unsettled table-checks state join image image-bytes fresh wrong-place most most-order wrong-transition wrong state-checks stops enabled active risen counted falling as-wanted in-time firable withdrawn added residual rule rounds fired marked executed starved reset rising record-of cycle overfull start-checks start words-of word-checks run-checks trace run N N-unsettled net7 net8 net6 alike word-bytes sets-at counts-of passes net5 net9 net10 nets-1-to-5 nets-6-to-10 all-pass net11 net12 put-back two-full beside
 beside-pass = refl
 
 -- Two lists of cases pass together if each does.

@@ -11,7 +11,7 @@ use Rattle.meaning.specs.Bytes.{bytes, cut}
 use Rattle.meaning.specs.Table.{kinds, place, transition, table}
 use Rattle.meaning.specs.Answer.{Answer, refused, decide}
 use Rattle.meaning.specs.Priority.{through, above}
-use Rattle.meaning.specs.Defined.{bad-length, bad-kind, interval, bad-field, same, twice, fault, faulty, names-place, names-transition, names-second, unknown, empty, arc-at-place, arc-at-transition, isolated, circle, some-two, conflict, complementary, inhibited, settled, unsettled, clashes, table-checks, check}
+use Rattle.meaning.specs.Defined.{bad-length, bad-kind, interval, bad-field, same, twice, fault, faulty, names-place, names-transition, names-second, unknown, empty, arc-at-place, arc-at-transition, isolated, circle, some-two, conflict, complementary, inhibited, settled, unsettled, in-unsettled, table-checks, check}
 use Rattle.meaning.specs.Calls.{lookup-from}
 use Rattle.meaning.specs.Promise.{Checked, Started, Looked-up}
 use Rattle.meaning.specs.Nets as net
@@ -95,7 +95,7 @@ answers : (check bad-2-late ≡ refused 3 0)
     × (check both-ways ≡ refused 4 1)
     × (check post-beside-basic ≡ refused 5 1)
     × (check nothing ≡ refused 6 0)
-unfolding some first bytes cut kinds place transition table decide through above bad-length bad-kind interval bad-field same twice fault faulty names-place names-transition names-second unknown empty arc-at-place arc-at-transition isolated circle some-two conflict complementary inhibited settled unsettled clashes table-checks check
+unfolding some first bytes cut kinds place transition table decide through above bad-length bad-kind interval bad-field same twice fault faulty names-place names-transition names-second unknown empty arc-at-place arc-at-transition isolated circle some-two conflict complementary inhibited settled unsettled in-unsettled table-checks check
 answers = (refl, refl, refl, refl, refl, refl, refl, refl, refl, refl, refl, refl, refl, refl, refl)
 
 -- CHECK

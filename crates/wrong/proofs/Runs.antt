@@ -10,7 +10,7 @@ use Rattle.meaning.specs.Bytes.{number, bytes, bit, bits, cut}
 use Rattle.meaning.specs.Table.{kinds, place, transition, total, ceiling, table}
 use Rattle.meaning.specs.Answer.{Answer, decide}
 use Rattle.meaning.specs.Priority.{through, above}
-use Rattle.meaning.specs.Defined.{bad-length, bad-kind, interval, bad-field, same, twice, fault, faulty, names-place, names-transition, names-second, unknown, empty, arc-at-place, arc-at-transition, isolated, circle, some-two, conflict, complementary, inhibited, settled, unsettled, clashes, table-checks}
+use Rattle.meaning.specs.Defined.{bad-length, bad-kind, interval, bad-field, same, twice, fault, faulty, names-place, names-transition, names-second, unknown, empty, arc-at-place, arc-at-transition, isolated, circle, some-two, conflict, complementary, inhibited, settled, unsettled, in-unsettled, table-checks}
 use Rattle.meaning.specs.Image.{state, join, image, image-bytes, fresh, wrong-place, most, most-order, wrong-transition, wrong, state-checks}
 use Rattle.meaning.specs.Cycle.{stops, enabled, active, risen, counted, falling, as-wanted, in-time, firable, withdrawn, added, residual, rule, rounds, fired, marked, executed, starved, reset, rising, record-of, cycle, overfull}
 use Rattle.meaning.specs.Calls.{words-of, word-checks, run-checks, trace, run}
@@ -58,7 +58,7 @@ leaves : (getD (run net7-ranked (begun net7-ranked) (quiet 1) (sevens 24) .repor
     × (run N (begun N) (quiet 1) (sevens 24) .answer .cycles ≡ 1)
     × (run N (begun N) (quiet 1) (sevens 24) .answer .number ≡ 0)
     × (getD (run N (begun N) (quiet 1) (sevens 24) .report) 0 0 ≡ 1)
-unfolding some every sum first members within number bytes bit bits cut kinds place transition total ceiling table decide through above bad-length bad-kind interval bad-field same twice fault faulty names-place names-transition names-second unknown empty arc-at-place arc-at-transition isolated circle some-two conflict complementary inhibited settled unsettled clashes table-checks state join image image-bytes fresh wrong-place most most-order wrong-transition wrong state-checks stops enabled active risen counted falling as-wanted in-time firable withdrawn added residual rule rounds fired marked executed starved reset rising record-of cycle overfull words-of word-checks run-checks trace run N N-unsettled net6 net7 net9 put-back two-full
+unfolding some every sum first members within number bytes bit bits cut kinds place transition total ceiling table decide through above bad-length bad-kind interval bad-field same twice fault faulty names-place names-transition names-second unknown empty arc-at-place arc-at-transition isolated circle some-two conflict complementary inhibited settled unsettled in-unsettled table-checks state join image image-bytes fresh wrong-place most most-order wrong-transition wrong state-checks stops enabled active risen counted falling as-wanted in-time firable withdrawn added residual rule rounds fired marked executed starved reset rising record-of cycle overfull words-of word-checks run-checks trace run N N-unsettled net6 net7 net9 put-back two-full
 leaves = (refl, refl, refl, refl, refl, refl, refl, refl, refl, refl, refl, refl, refl, refl, refl)
 
 -- Byte i of the report, and of the image, that the statement allows.

@@ -8,7 +8,7 @@ use Rattle.meaning.specs.Below.{some}
 use Rattle.meaning.specs.Bytes.{bit}
 use Rattle.meaning.proofs.Below.{some-same}
 use Rattle.sets.proofs.Bits.{bit-and, bit-or, zero-set}
-use Rattle.arcs.proofs.Meeting.{some-or}
+use Rattle.sets.proofs.Some.{some-or}
 use Rattle.arcs.proofs.common.Statement.{statement}
 use Rattle.arcs.proofs.common.Tie as tie
 
@@ -21,7 +21,8 @@ returns x =
     let all : ℕ = bitOr (bitAnd a b) (bitAnd c d) in
     ap not
     (zero-set all
-    (or-lt 64 (bitAnd a b) (bitAnd c d) (and-lt 64 a b (omega arith) (omega arith)) (and-lt 64 c d (omega arith) (omega arith))))
+    (or-lt 64 (bitAnd a b) (bitAnd c d) (and-lt 64 a b (omega arith) (omega arith))
+    (and-lt 64 c d (omega arith) (omega arith))))
     ∙ Bool·not-not (some 64 (bit all))
     ∙ some-same 64 (bit all) (λ k. (bit a k && bit b k) || (bit c k && bit d k))
     (λ k l. bit-or (bitAnd a b) (bitAnd c d) k ∙ ap₂ (λ (x y : Bool). x || y) (bit-and a b k) (bit-and c d k))

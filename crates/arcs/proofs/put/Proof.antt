@@ -1,6 +1,7 @@
--- The loop keeps what each set has or is still to gain: all of `what`, where it is set k of a transition in the rest of `to`.
-use mathlib.Core.Bool.{true, not, _&&_, _||_, or-false, and-false}
-use mathlib.Core.Path.{_≡_, refl, sym, ap, _∙_}
+-- The loop keeps what each set has or is still to gain: all of `what`, where it is set k of a transition in the rest
+-- of `to`.
+use mathlib.Core.Bool.{true, _&&_, _||_, or-false, and-false}
+use mathlib.Core.Path.{_≡_, refl, sym, _∙_}
 use Prim.Native.Nat.{ℕ, _+_, _*_, _^_, _<_}
 use native.Mathlib.Omega.{arith}
 use lib.Dec.{eqb}
@@ -8,7 +9,7 @@ use lib.ListN.{length, getD, length-set}
 use borrow.Author.Needs.{needs}
 use Rattle.meaning.specs.Bytes.{bit}
 use Rattle.sets.proofs.Bits.{bit-zero}
-use Rattle.sets.proofs.Members.{lowest-in, falls}
+use Rattle.sets.proofs.Members.{lowest-in, falls, without}
 use Rattle.arcs.proofs.Putting.{one-due}
 use Rattle.arcs.proofs.put.Statement.{statement}
 use Rattle.arcs.proofs.put.Tie as tie
@@ -27,24 +28,21 @@ loop-holds : tie.Need-loop-holds Inv-loop μ-loop
 loop-holds c = (omega arith, c .pre .1, λ t k j h. refl)
 
 -- The member that is taken is below 64, and in what is left.
-member : (c : tie.After-lowest Inv-loop μ-loop) → (c .lowest .result < 64) × (bit (c .before .before .loop .left) (c .lowest .result) ≡ true)
+member : (c : tie.After-lowest Inv-loop μ-loop)
+    → (c .lowest .result < 64) × (bit (c .before .before .loop .left) (c .lowest .result) ≡ true)
 member c =
     let at = c .before .before .loop in
     lowest-in (at .left) (c .lowest .result) (at .inv .0) (c .before .loop-test .taken) (c .lowest .ensures)
 
--- Where the turn that is done took its member, which what it leaves is without.
+-- Where the turn that is done took its member.
 abbrev taken : tie.After-rest Inv-loop μ-loop → tie.After-lowest Inv-loop μ-loop
 taken c = c .before .before .before
-
-without : (c : tie.After-rest Inv-loop μ-loop) (j : ℕ)
-    → bit (c .rest .result) j ≡ (bit (taken c .before .before .loop .left) j && not (eqb (taken c .lowest .result) j))
-without c j =
-    c .rest .ensures j ∙ ap (λ (x : ℕ). bit (taken c .before .before .loop .left) j && not (eqb x j)) (sym (taken c .lowest .ensures))
 
 loop-less : tie.Need-loop-less Inv-loop μ-loop
 loop-less c =
     let at = taken c .before .before .loop in
-    falls (at .left) _ (c .rest .result) (without c) (at .inv .0) (omega arith) (member (taken c) .1)
+    falls (at .left) _ (c .rest .result) (without _ _ _ (taken c .lowest .ensures) (c .rest .ensures)) (at .inv .0)
+    (omega arith) (member (taken c) .1)
 
 loop-again : tie.Need-loop-again Inv-loop μ-loop
 loop-again c =
@@ -56,7 +54,8 @@ loop-again c =
       length-set (at .arcs) _ _ ∙ at .inv .1,
       λ t k j h.
           one-due (at .arcs) (taken c .lowest .result) (a .k) (c .before .union .result) (start .pre .0)
-          (omega (arith, m .0, start .pre .0, at .inv .1)) (bit (a .what)) (c .before .union .ensures) (at .left) (c .rest .result) (without c) (m .1) t k j h
+          (omega (arith, m .0, start .pre .0, at .inv .1)) (bit (a .what)) (c .before .union .ensures) (at .left)
+          (c .rest .result) (without _ _ _ (taken c .lowest .ensures) (c .rest .ensures)) (m .1) t k j h
           ∙ at .inv .2 t k j h,
     )
 

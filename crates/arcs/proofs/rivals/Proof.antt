@@ -1,14 +1,15 @@
--- The inner walk gives u to each transition below it that it meets; the outer goes over all u below n, and from n on nobody is above another.
-use mathlib.Core.Bool.{true, false, not, _&&_}
+-- The inner walk gives u to each transition below it that it meets; the outer goes over all u below n, and from n on
+-- nobody is above another.
+use mathlib.Core.Bool.{true, false}
 use mathlib.Core.Logic.{inl, inr}
-use mathlib.Core.Path.{_≡_, refl, sym, ap, _∙_}
-use Prim.Native.Nat.{ℕ, _+_, _-_, _*_, _≤_, _<_}
+use mathlib.Core.Path.{_≡_, refl, sym, _∙_}
+use Prim.Native.Nat.{_+_, _-_, _*_, _≤_, _<_}
 use native.Mathlib.Omega.{arith}
-use lib.Dec.{eqb}
 use borrow.Author.Needs.{needs}
 use Rattle.meaning.specs.Bytes.{bit}
-use Rattle.sets.proofs.Members.{lowest-in, falls}
-use Rattle.arcs.proofs.Gaining.{Gains, rival-put, none-put, one-gained, Given-to, none-given, one-given, all-given}
+use Rattle.sets.proofs.Members.{lowest-in, falls, without}
+use Rattle.arcs.proofs.Gaining.{Gains, rival-put, none-put, one-gained, Given-to, none-given, one-given}
+use Rattle.arcs.proofs.Gaining.{all-given}
 use Rattle.arcs.proofs.rivals.Statement.{statement}
 use Rattle.arcs.proofs.rivals.Tie as tie
 
@@ -61,33 +62,33 @@ meets-requires c κs = (member (c .before) .0, u-low (outer (c .before)))
 single-requires : tie.Need-single-requires Inv-loop2 μ-loop2 Inv-loop μ-loop
 single-requires c κs = u-low (outer (c .before .before .before .before))
 
--- Where the turn that is done took its member, which what it leaves is without.
+-- Where the turn that is done took its member.
 abbrev taken : tie.After-rest Inv-loop2 μ-loop2 Inv-loop μ-loop → tie.After-lowest Inv-loop2 μ-loop2 Inv-loop μ-loop
 taken c = c .before .before .before .before
-
-without : (c : tie.After-rest Inv-loop2 μ-loop2 Inv-loop μ-loop) (j : ℕ)
-    → bit (c .rest .result) j ≡ (bit (taken c .before .before .loop2 .left) j && not (eqb (taken c .lowest .result) j))
-without c j =
-    c .rest .ensures j ∙ ap (λ (x : ℕ). bit (taken c .before .before .loop2 .left) j && not (eqb x j)) (sym (taken c .lowest .ensures))
 
 loop2-less : tie.Need-loop2-less Inv-loop2 μ-loop2 Inv-loop μ-loop
 loop2-less c =
     let at = taken c .before .before .loop2 in
-    falls (at .left) _ (c .rest .result) (without c) (at .inv .small) (omega arith) (member (taken c) .1)
+    falls (at .left) _ (c .rest .result) (without _ _ _ (taken c .lowest .ensures) (c .rest .ensures)) (at .inv .small)
+    (omega arith) (member (taken c) .1)
 
 loop2-again : tie.Need-loop2-again Inv-loop2 μ-loop2 Inv-loop μ-loop
 loop2-again c =
     let at = taken c .before .before .loop2 in
     let k = member (taken c) in
     let says = c .before .before .meets .ensures in
-    let gained = one-gained (at .left) (taken c .lowest .result) (c .rest .result) (without c) (k .1) (k .0) (omega arith) (at .inv) in
+    let gained =
+    one-gained (at .left) (taken c .lowest .result) (c .rest .result)
+    (without _ _ _ (taken c .lowest .ensures) (c .rest .ensures)) (k .1) (k .0) (omega arith) (at .inv) in
     elim (c .before .if1 .came) [
       | inl y ↦
           rw (y .6, y .7)
           (gained true (sym (y .0 .taken) ∙ says) _ _
-          (rival-put _ _ (at .arcs) (at .lower) (y .3 .result) (y .5 .result) (at .inv .size) (k .0) (λ j. y .3 .ensures j ∙ rw (y .2 .ensures j))
+          (rival-put _ _ (at .arcs) (at .lower) (y .3 .result) (y .5 .result) (at .inv .size) (k .0)
+          (λ j. y .3 .ensures j ∙ rw (y .2 .ensures j))
           (λ j. y .5 .ensures j ∙ rw (y .4 .ensures j))))
-      | inr y ↦ rw (y .1, y .2) (gained false (sym (y .0 .left) ∙ says) _ _ (none-put _ _ (at .arcs) (at .lower) (at .inv .size)))
+      | inr y ↦ rw (y .1, y .2) (gained false (sym (y .0 .left) ∙ says) _ _
+          (none-put _ _ (at .arcs) (at .lower) (at .inv .size)))
     ]
 
 loop-again : tie.Need-loop-again Inv-loop2 μ-loop2 Inv-loop μ-loop

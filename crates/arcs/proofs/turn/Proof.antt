@@ -35,7 +35,8 @@ loop-again c =
     let in-loop = second .before .before .before .before in
     let at = in-loop .before .loop in (
       omega (arith, in-loop .loop-test .taken),
-      one-turned (at .inv .1) (omega (arith, in-loop .loop-test .taken, begun in-loop .pre .0 .few)) (second .before .before .before .single .result)
+      one-turned (at .inv .1) (omega (arith, in-loop .loop-test .taken, begun in-loop .pre .0 .few))
+          (second .before .before .before .single .result)
           (second .before .before .before .single .ensures) (second .put .ensures) (c .put2 .ensures),
     )
 

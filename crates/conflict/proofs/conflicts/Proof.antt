@@ -13,7 +13,8 @@ use Rattle.sets.proofs.Bits.{bit-zero}
 use Rattle.sets.proofs.Rows.{all-zero}
 use Rattle.rows.specs.Rows.{takers}
 use Rattle.conflict.specs.Pairs.{Takerless-from}
-use Rattle.conflict.proofs.Takers.{some-short, one-place}
+use Rattle.sets.proofs.Some.{some-short}
+use Rattle.conflict.proofs.Takers.{one-place}
 use Rattle.conflict.proofs.conflicts.Statement.{statement}
 use Rattle.conflict.proofs.conflicts.Tie as tie
 

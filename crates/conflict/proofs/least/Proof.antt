@@ -1,5 +1,5 @@
--- `least` finds the least loose pair: for each i, whoever was taken out of its row makes no loose pair with i, and the
--- lowest left is the next; no transition of a pair is past the numbers below n.
+-- `least` finds the least unsettled pair: for each i, whoever was taken out of its row makes no unsettled pair with
+-- i, and the lowest left is the next; no transition of a pair is past the numbers below n.
 use mathlib.Core.Bool.{true}
 use mathlib.Core.Path.{_≡_, refl, sym, ap, _∙_}
 use Prim.Native.Nat.{ℕ, _-_, _*_, _^_, _≤_, _<_}

@@ -10,9 +10,8 @@ use borrow.Author.Tests.{eq-eqb, ltb-true}
 use Rattle.meaning.specs.Bytes.{bit}
 use Rattle.meaning.proofs.Bool.{and-left}
 use Rattle.sets.proofs.Bits.{bit-zero, same-set}
-use Rattle.sets.proofs.Walk.{no-number}
+use Rattle.sets.proofs.Walk.{no-number, next-number, below-end}
 use Rattle.rows.specs.Rows.{looks}
-use Rattle.cycles.proofs.Sets.{next, below-end}
 use Rattle.cycles.proofs.conditional.Statement.{statement}
 use Rattle.cycles.proofs.conditional.Tie as tie
 
@@ -32,7 +31,7 @@ goes-on c =
     let low : at .t < 64 = omega (arith, c .before .before .loop-test .taken, start .pre .0 .0) in (
       omega (arith, c .before .before .loop-test .taken),
       λ j.
-          next (λ k. not (eqb (looks (start .args .rows .now) k) 0)) j (at .t) low refl (c .with-if .ensures j)
+          next-number (λ k. not (eqb (looks (start .args .rows .now) k) 0)) j (at .t) refl (c .with-if .ensures j)
           (at .inv .1 j),
     )
 

@@ -7,9 +7,8 @@ use lib.Dec.{ltb, eqb}
 use borrow.Author.Needs.{needs}
 use borrow.Author.Tests.{eq-eqb}
 use Rattle.meaning.specs.Bytes.{bit}
-use Rattle.sets.proofs.Walk.{no-number}
+use Rattle.sets.proofs.Walk.{no-number, next-number, below-end}
 use Rattle.rows.specs.Rows.{limit-of}
-use Rattle.cycles.proofs.Sets.{next, below-end}
 use Rattle.cycles.proofs.timed.Statement.{statement}
 use Rattle.cycles.proofs.timed.Tie as tie
 
@@ -29,7 +28,7 @@ goes-on c =
     let low : at .t < 64 = omega (arith, c .before .before .loop-test .taken, start .pre .0) in (
       omega (arith, c .before .before .loop-test .taken),
       λ j.
-          next (λ k. not (eqb (limit-of (start .args .times .now) k) 0)) j (at .t) low refl (c .with-if .ensures j)
+          next-number (λ k. not (eqb (limit-of (start .args .times .now) k) 0)) j (at .t) refl (c .with-if .ensures j)
           (at .inv .1 j),
     )
 

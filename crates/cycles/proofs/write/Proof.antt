@@ -1,6 +1,6 @@
 -- The three sets are stored one behind the other, eight bytes each.
 use borrow.Author.Needs.{needs}
-use Rattle.cycles.proofs.Written.{three}
+use Rattle.numbers.proofs.Stored.{three}
 use Rattle.cycles.proofs.write.Statement.{statement}
 use Rattle.cycles.proofs.write.Tie as tie
 

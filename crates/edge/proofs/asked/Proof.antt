@@ -1,4 +1,5 @@
--- What is looked at and in the word is what is wanted true exactly if no condition is other than wanted, as what is wanted true is looked at.
+-- What is looked at and in the word is what is wanted true exactly if no condition is other than wanted, as what is
+-- wanted true is looked at.
 use mathlib.Core.Bool.{Bool, true, false, cond, not, _&&_}
 use mathlib.Core.Path.{_≡_, refl, sym, ap, _∙_}
 use Prim.Native.Nat.{ℕ, _^_, _<_}
@@ -16,17 +17,20 @@ use Rattle.edge.proofs.asked.Tie as tie
 
 -- As wanted: what is looked at and in the word is what is wanted true.
 wanted-in : (looks wanted word : ℕ) → looks < 2 ^ 64 → wanted < 2 ^ 64 → word < 2 ^ 64
-    → ((k : ℕ) → k < 64 → bit wanted k ≡ true → bit looks k ≡ true) → eqb (bitAnd looks word) wanted ≡ as-asked looks wanted word
+    → ((k : ℕ) → k < 64 → bit wanted k ≡ true → bit looks k ≡ true)
+    → eqb (bitAnd looks word) wanted ≡ as-asked looks wanted word
 unfolding as-asked
 wanted-in looks wanted word hl ht hw looked =
     same-test (eqb (bitAnd looks word) wanted) (as-asked looks wanted word)
     (λ e.
     let same : bitAnd looks word ≡ wanted = eqb-true (bitAnd looks word) wanted e in
-    ap not (none-intro 64 amiss (λ k l. right (bit looks k) (bit word k) _ (sym (bit-and looks word k) ∙ ap (λ (x : ℕ). bit x k) same))))
+    ap not (none-intro 64 amiss (λ k l. right (bit looks k) (bit word k) _
+    (sym (bit-and looks word k) ∙ ap (λ (x : ℕ). bit x k) same))))
     (λ e.
     eq-eqb (bitAnd looks word) wanted
     (same-set (bitAnd looks word) wanted (and-lt 64 looks word hl hw) ht
-    (λ k l. bit-and looks word k ∙ both (bit looks k) (bit word k) (bit wanted k) (looked k l) (none-elim 64 amiss (not-true _ e) k l))))
+    (λ k l. bit-and looks word k ∙ both (bit looks k) (bit word k) (bit wanted k) (looked k l)
+    (none-elim 64 amiss (not-true _ e) k l))))
   where
     amiss : ℕ → Bool
     amiss k = bit looks k && cond (bit wanted k) (not (bit word k)) (bit word k)
@@ -45,7 +49,8 @@ wanted-in looks wanted word hl ht hw looked =
     both false w false f e = refl
 
 returns : tie.Need-returns
-returns c = wanted-in (c .args .looks) (c .args .wanted) (c .args .word) (omega arith) (omega arith) (omega arith) (c .pre)
+returns c =
+    wanted-in (c .args .looks) (c .args .wanted) (c .args .word) (omega arith) (omega arith) (omega arith) (c .pre)
 
 pub asked-spec : {M : Type 1} → statement M
 asked-spec = tie.close (tie.spec returns)

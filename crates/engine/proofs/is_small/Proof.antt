@@ -1,5 +1,4 @@
 -- Both bounds are asked, one after the other.
-use mathlib.Core.Bool.{false, true}
 use borrow.Author.Tests.{leb-true}
 use Rattle.meaning.proofs.Bool.{not-both}
 use mathlib.Core.Path.{refl}

@@ -1,5 +1,4 @@
 -- The rows are enough; a refused table is the answer, and behind an accepted one run proceeds.
-use mathlib.Core.Path.{refl}
 use native.Mathlib.Omega.{arith}
 use borrow.Author.Needs.{needs}
 use Rattle.meaning.specs.Table.{table}

@@ -1,4 +1,5 @@
--- `fired` meets its contract: after k rounds those of rank below k are decided, and with none left the set is the fired one.
+-- `fired` meets its contract: after k rounds those of rank below k are decided, and with none left the set is the
+-- fired one.
 use Prim.Native.Nat.{_-_, _≤_, _<_, _^_}
 use native.Mathlib.Omega.{arith}
 use borrow.Author.Needs.{needs}
@@ -16,8 +17,12 @@ abbrev μ-loop : tie.MeasureT-loop
 
 loop-holds : tie.Need-loop-holds Inv-loop μ-loop
 loop-holds c =
-    let begun = c .before .before in
-    (omega arith, omega arith, at-start _ _ _ _ _ _ _ (begun .pre .1) (c .less .result) (omega arith) (c .less .ensures))
+    let begun = c .before .before in (
+      omega arith,
+      omega arith,
+      at-start _ _ _ _ _ _ _ (begun .pre .1) (c .less .result) (omega arith)
+          (c .less .ensures),
+    )
 
 returns : tie.Need-returns Inv-loop μ-loop
 returns c = at-end (c .before .before .loop .inv .2) (λ t h. rw (c .if1 .taken) (bit-zero t))

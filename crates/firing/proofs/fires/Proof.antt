@@ -26,7 +26,8 @@ stopped-in-requires-2 c κs =
 
 returns-3 : tie.Need-returns-3
 unfolding left-enabled
-returns-3 c = rw (← c .before .before .before .stopped-in .ensures, c .before .before .if2 .left, ← c .stopped-in2 .ensures)
+returns-3 c =
+    rw (← c .before .before .before .stopped-in .ensures, c .before .before .if2 .left, ← c .stopped-in2 .ensures)
 
 pub fires-spec : {M : Type 1} → statement M
 fires-spec =

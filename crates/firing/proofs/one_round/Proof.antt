@@ -2,14 +2,13 @@
 use mathlib.Core.Bool.{Bool, true, false, not, _&&_, or-false}
 use mathlib.Core.List.{List}
 use mathlib.Core.Logic.{⊎-elim}
-use mathlib.Core.Path.{_≡_, sym, ap, _∙_}
+use mathlib.Core.Path.{_≡_, sym, _∙_}
 use Prim.Native.Nat.{ℕ, _<_}
 use native.Mathlib.Omega.{arith}
-use lib.Dec.{eqb}
 use borrow.Author.Needs.{needs}
 use Rattle.meaning.specs.Bytes.{bit}
 use Rattle.sets.proofs.Bits.{bit-zero}
-use Rattle.sets.proofs.Members.{lowest-in, falls}
+use Rattle.sets.proofs.Members.{lowest-in, falls, without}
 use Rattle.firing.specs.Fired.{keeps, waits-for}
 use Rattle.firing.proofs.Rounds.{none-passed, all-passed, Walked, one-walked}
 use Rattle.firing.proofs.one_round.Statement.{statement}
@@ -41,7 +40,8 @@ loop-holds c =
     }
 
 -- The member that is taken is below 64, and in what is to come.
-member : (c : tie.After-lowest Inv-loop μ-loop) → (c .lowest .result < 64) × (bit (c .before .before .loop .todo) (c .lowest .result) ≡ true)
+member : (c : tie.After-lowest Inv-loop μ-loop)
+    → (c .lowest .result < 64) × (bit (c .before .before .loop .todo) (c .lowest .result) ≡ true)
 member c =
     let at = c .before .before .loop in
     lowest-in (at .todo) (c .lowest .result) (at .inv .small) (c .before .loop-test .taken) (c .lowest .ensures)
@@ -51,19 +51,15 @@ fires-requires c κs =
     let taken = c .before .before .before in
     (member taken .0, begun (taken .before .before) .pre)
 
--- Where the turn that is done took its member, which what it leaves is without.
+-- Where the turn that is done took its member.
 abbrev taken : tie.After-rest Inv-loop μ-loop → tie.After-lowest Inv-loop μ-loop
 taken c = c .before .before .before .before
-
-without : (c : tie.After-rest Inv-loop μ-loop) (j : ℕ)
-    → bit (c .rest .result) j ≡ (bit (taken c .before .before .loop .todo) j && not (eqb (taken c .lowest .result) j))
-without c j =
-    c .rest .ensures j ∙ ap (λ (x : ℕ). bit (taken c .before .before .loop .todo) j && not (eqb x j)) (sym (taken c .lowest .ensures))
 
 loop-less : tie.Need-loop-less Inv-loop μ-loop
 loop-less c =
     let at = taken c .before .before .loop in
-    falls (at .todo) _ (c .rest .result) (without c) (at .inv .small) (omega arith) (member (taken c) .1)
+    falls (at .todo) _ (c .rest .result) (without _ _ _ (taken c .lowest .ensures) (c .rest .ensures)) (at .inv .small)
+    (omega arith) (member (taken c) .1)
 
 loop-again : tie.Need-loop-again Inv-loop μ-loop
 loop-again c =
@@ -71,11 +67,15 @@ loop-again c =
     let at = taken .before .before .loop in
     let k = member taken in
     let waits = c .before .before .meet .ensures in
-    let walked = one-walked (at .todo) (taken .lowest .result) (c .rest .result) (without c) (k .0) (k .1) (omega arith) (at .keep) (at .more) (at .inv) in
+    let walked =
+    one-walked (at .todo) (taken .lowest .result) (c .rest .result)
+    (without _ _ _ (taken .lowest .ensures) (c .rest .ensures)) (k .0) (k .1) (omega arith) (at .keep)
+    (at .more) (at .inv) in
     ⊎-elim
     (λ y.
     rw (y .3, y .4)
-    (walked (y .2 .result) true (sym (y .0 .taken) ∙ waits) (λ j. y .2 .ensures j ∙ rw (y .1 .ensures j)) (at .more) false
+    (walked (y .2 .result) true (sym (y .0 .taken) ∙ waits) (λ j. y .2 .ensures j ∙ rw (y .1 .ensures j)) (at .more)
+    false
     (rw (← waits, y .0 .taken)) (λ j. sym (or-false _))))
     (⊎-elim
     (λ y.
@@ -93,7 +93,9 @@ returns c =
     let a = begun (c .before) .args in
     let at = c .before .loop in
     record {
-      waits = λ t h. all-passed 0 (a .left) (at .todo) _ (at .keep) (c .loop-test .left) (at .inv .kept) t h ∙ rw (bit-zero t);
+      waits =
+          λ t h. all-passed 0 (a .left) (at .todo) _ (at .keep) (c .loop-test .left) (at .inv .kept) t h
+          ∙ rw (bit-zero t);
       fires = all-passed (a .out) (a .left) (at .todo) _ (at .more) (c .loop-test .left) (at .inv .added);
     }
 

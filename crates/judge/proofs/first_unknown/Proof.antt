@@ -1,6 +1,6 @@
 -- The records are asked where the rows show an unknown; where they do not, the answer is the number of records.
 use borrow.Author.Needs.{needs}
-use mathlib.Core.Path.{refl, _∙_}
+use mathlib.Core.Path.{_∙_}
 use Rattle.meaning.specs.Table.{table}
 use Rattle.judge.specs.Judged.{unknown-first}
 use Rattle.judge.proofs.first_unknown.Statement.{statement}

@@ -20,7 +20,8 @@ one-more f t p r r′ e joins = joins ∙ rw (e, add-one p)
 
 abbrev Inv-loop : tie.InvT-loop
 Inv-loop kept n held₀ actions₀ p₀ held actions p =
-    (p ≤ n) × ((t : ℕ) → bit held t ≡ some p (λ q. bit (getD kept q 0) t)) × ((k : ℕ) → bit actions k ≡ some p (λ q. bit (getD kept (128 + q) 0) k))
+    (p ≤ n) × ((t : ℕ) → bit held t ≡ some p (λ q. bit (getD kept q 0) t))
+    × ((k : ℕ) → bit actions k ≡ some p (λ q. bit (getD kept (128 + q) 0) k))
 
 abbrev μ-loop : tie.MeasureT-loop
 μ-loop kept n held₀ actions₀ p₀ held actions p = n - p
@@ -35,8 +36,10 @@ loop-again c =
     let at = join .before .before .before .loop in
     let a = join .before .before .before .before .args in (
       omega arith,
-      λ t. one-more (λ q. getD (a .kept .now) q 0) t (at .p) (at .held) (join .union .result) (at .inv .1 t) (join .union .ensures t),
-      λ k. one-more (λ q. getD (a .kept .now) (128 + q) 0) k (at .p) (at .actions) (c .union2 .result) (at .inv .2 k) (c .union2 .ensures k),
+      λ t. one-more (λ q. getD (a .kept .now) q 0) t (at .p) (at .held) (join .union .result) (at .inv .1 t)
+          (join .union .ensures t),
+      λ k. one-more (λ q. getD (a .kept .now) (128 + q) 0) k (at .p) (at .actions) (c .union2 .result) (at .inv .2 k)
+          (c .union2 .ensures k),
     )
 
 returns : tie.Need-returns Inv-loop μ-loop

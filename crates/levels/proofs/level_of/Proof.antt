@@ -1,4 +1,5 @@
--- The loop keeps the level of the tokens at the arcs that are asked: those whom they stop are held back, and none of their weights is passed.
+-- The loop keeps the level of the tokens at the arcs that are asked: those whom they stop are held back, and none of
+-- their weights is passed.
 use mathlib.Core.Bool.{Bool, true, false, not, _&&_, _||_}
 use mathlib.Core.List.{List}
 use mathlib.Core.Logic.{⊎-elim}
@@ -11,12 +12,13 @@ use borrow.Author.Needs.{needs}
 use borrow.Author.Tests.{eqb-true, eq-eqb, ne-eqb}
 use Rattle.meaning.specs.Bytes.{bit}
 use Rattle.meaning.proofs.Bool.{not-both}
+use Rattle.meaning.proofs.Fired.{and-same}
 use Rattle.sets.proofs.Bits.{bit-zero}
-use Rattle.sets.proofs.Members.{lowest-in, falls, out-more}
+use Rattle.sets.proofs.Members.{lowest-in, falls, out-more, kept}
 use Rattle.levels.specs.declared.Level.{Level}
 use Rattle.levels.specs.Levels.{stops-of, lacks-of}
-use Rattle.levels.proofs.Walk.{kept, none-kept, all-in}
-use Rattle.levels.proofs.Sides.{Keeps-side, same-stops, same-lacks, on-level}
+use Rattle.levels.proofs.Walk.{none-kept, all-in}
+use Rattle.levels.proofs.Sides.{Keeps-side, same-stops, same-lacks}
 use Rattle.levels.proofs.level_of.Statement.{statement}
 use Rattle.levels.proofs.level_of.Tie as tie
 
@@ -29,7 +31,8 @@ record So-far (tokens arcs : ℕ) (w s : List ℕ) (x : Level) (left : ℕ) : Ty
   some-token : ¬ (tokens ≡ 0) → 1 ≤ x .from
   no-token : tokens ≡ 0 → x .upto ≡ 0
   held-is : (t : ℕ) → (bit (x .held) t || (bit left t && stops-of w s tokens t)) ≡ (bit arcs t && stops-of w s tokens t)
-  lacks-is : (t : ℕ) → (bit (x .lacks) t || (bit left t && lacks-of w s tokens t)) ≡ (bit arcs t && lacks-of w s tokens t)
+  lacks-is : (t : ℕ) → (bit (x .lacks) t || (bit left t && lacks-of w s tokens t))
+      ≡ (bit arcs t && lacks-of w s tokens t)
   sides : (t : ℕ) → bit left t ≡ false → bit arcs t ≡ true → Keeps-side tokens (getD w t 0) (x .from) (x .upto)
 
 abbrev Inv-loop : tie.InvT-loop
@@ -71,20 +74,24 @@ loop-holds c =
     (c .if1 .came)
 
 -- The member that is taken is below 64, and in what is left.
-member : (c : tie.After-lowest Inv-loop μ-loop) → (c .lowest .result < 64) × (bit (c .before .before .loop .left) (c .lowest .result) ≡ true)
+member : (c : tie.After-lowest Inv-loop μ-loop)
+    → (c .lowest .result < 64) × (bit (c .before .before .loop .left) (c .lowest .result) ≡ true)
 member c =
-    lowest-in (c .before .before .loop .left) (c .lowest .result) (c .before .before .loop .inv .word) (c .before .loop-test .taken) (c .lowest .ensures)
+    lowest-in (c .before .before .loop .left) (c .lowest .result) (c .before .before .loop .inv .word)
+    (c .before .loop-test .taken) (c .lowest .ensures)
 
 -- What is left after the turn is what was left without the member.
 rested : (c : tie.After-rest Inv-loop μ-loop) (j : ℕ)
     → bit (c .rest .result) j
-    ≡ (bit (c .before .before .before .before .before .before .loop .left) j && not (eqb (c .before .before .before .before .lowest .result) j))
+    ≡ (bit (c .before .before .before .before .before .before .loop .left) j
+    && not (eqb (c .before .before .before .before .lowest .result) j))
 rested c j = rw (c .before .before .before .before .lowest .ensures) (c .rest .ensures j)
 
 loop-less : tie.Need-loop-less Inv-loop μ-loop
 loop-less c =
     let at = c .before .before .before .before .before .before .loop in
-    falls (at .left) _ (c .rest .result) (rested c) (at .inv .word) (omega arith) (member (c .before .before .before .before) .1)
+    falls (at .left) _ (c .rest .result) (rested c) (at .inv .word) (omega arith)
+    (member (c .before .before .before .before) .1)
 
 loop-again : tie.Need-loop-again Inv-loop μ-loop
 loop-again c =
@@ -101,10 +108,12 @@ loop-again c =
       some-token = λ e. omega (arith, y .from-up, at .inv .some-token e);
       no-token = λ e. omega (arith, y .upto-down, at .inv .no-token e);
       held-is = λ t.
-          kept (at .left) _ (c .rest .result) (rested c) (stops-of (a .w .now) (a .s .now) (a .tokens)) (at .x .held) (c .before .narrowed .result .held) (k .1) (y .held-is) t
+          kept (at .left) _ (c .rest .result) (rested c) (stops-of (a .w .now) (a .s .now) (a .tokens)) (at .x .held)
+          (c .before .narrowed .result .held) _ (k .1) refl (y .held-is) t
           ∙ at .inv .held-is t;
       lacks-is = λ t.
-          kept (at .left) _ (c .rest .result) (rested c) (lacks-of (a .w .now) (a .s .now) (a .tokens)) (at .x .lacks) (c .before .narrowed .result .lacks) (k .1) (y .lacks-is) t
+          kept (at .left) _ (c .rest .result) (rested c) (lacks-of (a .w .now) (a .s .now) (a .tokens)) (at .x .lacks)
+          (c .before .narrowed .result .lacks) _ (k .1) refl (y .lacks-is) t
           ∙ at .inv .lacks-is t;
       sides =
           out-more (at .left) _ (c .rest .result) (rested c) _
@@ -121,23 +130,28 @@ returns c =
     let at = c .before .loop in
     let a = c .before .before .before .args in
     let inv = at .inv in
-    let side : (t : ℕ) → bit (a .arcs) t ≡ true → Keeps-side (a .tokens) (getD (a .w .now) t 0) (at .x .from) (at .x .upto)
+    let side : (t : ℕ) → bit (a .arcs) t ≡ true
+    → Keeps-side (a .tokens) (getD (a .w .now) t 0) (at .x .from) (at .x .upto)
     = λ t e. inv .sides t (rw (c .loop-test .left) (bit-zero t)) e in
     record {
       roof = inv .roof;
       inside = (inv .low, inv .high);
       empty = λ k l h. go (eqb (a .tokens) 0) refl k l h;
       held-is = λ k l h t.
-          all-in (stops-of (a .w .now) (a .s .now) (a .tokens)) (a .arcs) (at .left) (at .x .held) t (c .loop-test .left) (inv .held-is t)
-          ∙ on-level (bit (a .arcs) t) _ _ (λ e. same-stops (side t e) k l h (getD (a .s .now) t 0));
+          all-in (stops-of (a .w .now) (a .s .now) (a .tokens)) (a .arcs) (at .left) (at .x .held) t
+          (c .loop-test .left) (inv .held-is t)
+          ∙ and-same (bit (a .arcs) t) _ _ (λ e. same-stops (side t e) k l h (getD (a .s .now) t 0));
       lacks-is = λ k l h t.
-          all-in (lacks-of (a .w .now) (a .s .now) (a .tokens)) (a .arcs) (at .left) (at .x .lacks) t (c .loop-test .left) (inv .lacks-is t)
-          ∙ on-level (bit (a .arcs) t) _ _ (λ e. same-lacks (side t e) k l h (getD (a .s .now) t 0));
+          all-in (lacks-of (a .w .now) (a .s .now) (a .tokens)) (a .arcs) (at .left) (at .x .lacks) t
+          (c .loop-test .left) (inv .lacks-is t)
+          ∙ and-same (bit (a .arcs) t) _ _ (λ e. same-lacks (side t e) k l h (getD (a .s .now) t 0));
     }
   where
-    go : (b : Bool) → eqb (c .before .before .before .args .tokens) 0 ≡ b → (k : ℕ) → c .before .loop .x .from ≤ k → k ≤ c .before .loop .x .upto → eqb k 0 ≡ b
+    go : (b : Bool) → eqb (c .before .before .before .args .tokens) 0 ≡ b → (k : ℕ) → c .before .loop .x .from ≤ k
+        → k ≤ c .before .loop .x .upto → eqb k 0 ≡ b
     go true e k l h = eq-eqb k 0 (omega (arith, c .before .loop .inv .no-token (eqb-true _ 0 e)))
-    go false e k l h = ne-eqb k 0 (λ z. omega (arith, c .before .loop .inv .some-token (borrow.Author.Tests.eqb-false _ 0 e)))
+    go false e k l h =
+        ne-eqb k 0 (λ z. omega (arith, c .before .loop .inv .some-token (borrow.Author.Tests.eqb-false _ 0 e)))
 
 pub level-of-spec : {M : Type 1} → statement M
 level-of-spec =

@@ -1,5 +1,6 @@
--- By cases on whether the tokens reach the weight, and on the sort: the level ends below a weight that is missed and begins at one that is reached.
-use mathlib.Core.Bool.{and-true, and-false, or-false}
+-- By cases on whether the tokens reach the weight, and on the sort: the level ends below a weight that is missed and
+-- begins at one that is reached.
+use mathlib.Core.Bool.{or-false}
 use mathlib.Core.Logic.{⊎-elim}
 use mathlib.Core.Path.{sym, _∙_}
 use Prim.Native.Nat.{ℕ, _≤_, _<_}
@@ -14,14 +15,16 @@ ended : (c : tie.Joined2)
     → (c .if2 .end ≤ c .before .before .args .x .upto) × (c .if2 .end < c .before .before .args .weight)
     × ((k : ℕ) → k ≤ c .before .before .args .x .upto → k < c .before .before .args .weight → k ≤ c .if2 .end)
 ended c =
-    ⊎-elim (λ w. (omega arith, omega arith, λ k h l. omega arith)) (λ w. (omega arith, omega arith, λ k h l. omega arith)) (c .if2 .came)
+    ⊎-elim (λ w. (omega arith, omega arith, λ k h l. omega arith))
+    (λ w. (omega arith, omega arith, λ k h l. omega arith)) (c .if2 .came)
 
 -- The beginning is at the weight or later and no earlier than it was; no number above both is cut off.
 begun : (c : tie.Joined4)
     → (c .before .before .args .x .from ≤ c .if4 .begin) × (c .before .before .args .weight ≤ c .if4 .begin)
     × ((k : ℕ) → c .before .before .args .x .from ≤ k → c .before .before .args .weight ≤ k → c .if4 .begin ≤ k)
 begun c =
-    ⊎-elim (λ w. (omega arith, omega arith, λ k h l. omega arith)) (λ w. (omega arith, omega arith, λ k h l. omega arith)) (c .if4 .came)
+    ⊎-elim (λ w. (omega arith, omega arith, λ k h l. omega arith))
+    (λ w. (omega arith, omega arith, λ k h l. omega arith)) (c .if4 .came)
 
 returns : tie.Need-returns
 returns c =
@@ -30,8 +33,8 @@ returns c =
     let sort = ne-eqb _ 2 (at .if3 .taken) in
     let end = ended (at .before) in
     record {
-      held-is = λ j. c .before .union .ensures j ∙ rw (c .before .before .single .ensures j, sort, lt-ltb _ _ missed, and-true _);
-      lacks-is = λ j. c .union2 .ensures j ∙ rw (c .before .before .single .ensures j, sort, lt-ltb _ _ missed, and-true _);
+      held-is = λ j. c .before .union .ensures j ∙ rw (c .before .before .single .ensures j, sort, lt-ltb _ _ missed);
+      lacks-is = λ j. c .union2 .ensures j ∙ rw (c .before .before .single .ensures j, sort, lt-ltb _ _ missed);
       from-up = omega arith;
       upto-down = end .0;
       still-from = λ h. h;
@@ -46,8 +49,8 @@ returns-2 c =
     let sort = eq-eqb _ 2 (c .if3 .left) in
     let end = ended (c .before) in
     record {
-      held-is = λ j. sym (rw (sort, lt-leb _ _ missed, and-false _) (or-false _));
-      lacks-is = λ j. sym (rw (sort, and-false _) (or-false _));
+      held-is = λ j. sym (rw (sort, lt-leb _ _ missed) (or-false _));
+      lacks-is = λ j. sym (rw (sort) (or-false _));
       from-up = omega arith;
       upto-down = end .0;
       still-from = λ h. h;
@@ -63,8 +66,8 @@ returns-3 c =
     let sort = eq-eqb _ 2 (at .if5 .taken) in
     let begin = begun (at .before) in
     record {
-      held-is = λ j. c .union3 .ensures j ∙ rw (c .before .single2 .ensures j, sort, le-leb _ _ met, and-true _);
-      lacks-is = λ j. sym (rw (sort, and-false _) (or-false _));
+      held-is = λ j. c .union3 .ensures j ∙ rw (c .before .single2 .ensures j, sort, le-leb _ _ met);
+      lacks-is = λ j. sym (rw (sort) (or-false _));
       from-up = begin .0;
       upto-down = omega arith;
       still-from = λ h. begin .2 _ h met;
@@ -79,8 +82,8 @@ returns-4 c =
     let sort = ne-eqb _ 2 (c .if5 .left) in
     let begin = begun (c .before) in
     record {
-      held-is = λ j. sym (rw (sort, le-ltb _ _ met, and-false _) (or-false _));
-      lacks-is = λ j. sym (rw (sort, le-ltb _ _ met, and-false _) (or-false _));
+      held-is = λ j. sym (rw (sort, le-ltb _ _ met) (or-false _));
+      lacks-is = λ j. sym (rw (sort, le-ltb _ _ met) (or-false _));
       from-up = begin .0;
       upto-down = omega arith;
       still-from = λ h. begin .2 _ h met;

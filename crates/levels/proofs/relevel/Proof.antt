@@ -8,7 +8,8 @@ use lib.Dec.{eqb}
 use borrow.Author.Needs.{needs}
 use borrow.Author.Tests.{eq-eqb, ne-eqb}
 use Rattle.rows.specs.Rows.{actions}
-use Rattle.levels.proofs.Kept.{three-long, three-held, three-active, three-lacks, three-other, two-long, two-from, two-upto, two-other}
+use Rattle.levels.proofs.Kept.{three-long, three-held, three-active, three-lacks, three-other, two-long}
+use Rattle.levels.proofs.Kept.{two-from, two-upto, two-other}
 use Rattle.levels.proofs.relevel.Statement.{statement}
 use Rattle.levels.proofs.relevel.Tie as tie
 
@@ -16,9 +17,11 @@ use Rattle.levels.proofs.relevel.Tie as tie
 activates : (c : tie.Joined1)
     → c .if1 .kept
     ≡ cond (eqb (c .before .before .before .before .before .before .args .tokens) 0) 0
-    (actions (c .before .before .before .before .before .before .args .rows .now) (c .before .before .before .before .before .before .args .p))
+    (actions (c .before .before .before .before .before .before .args .rows .now)
+    (c .before .before .before .before .before .before .args .p))
 activates c =
-    ⊎-elim (λ came. came .1 ∙ sym (rw (eq-eqb _ 0 (came .0 .taken)))) (λ came. came .2 ∙ sym (rw (ne-eqb _ 0 (came .0 .left)))) (c .if1 .came)
+    ⊎-elim (λ came. came .1 ∙ sym (rw (eq-eqb _ 0 (came .0 .taken))))
+    (λ came. came .2 ∙ sym (rw (ne-eqb _ 0 (came .0 .left)))) (c .if1 .came)
 
 returns : tie.Need-returns
 returns c =
@@ -44,7 +47,9 @@ returns c =
           record {
             roof = is .roof;
             held-is = is .held-is;
-            active-is = λ k lo hi. activates c ∙ ap (λ (b : Bool). cond b 0 (actions (a .rows .now) (a .p))) (sym (is .empty k lo hi));
+            active-is =
+                λ k lo hi. activates c ∙ ap (λ (b : Bool). cond b 0 (actions (a .rows .now) (a .p)))
+                (sym (is .empty k lo hi));
             lacks-is = is .lacks-is;
           };
       inside = rw (f, u) (is .inside);

@@ -18,7 +18,11 @@ loop-holds : tie.Need-loop-holds Inv-loop μ-loop
 loop-holds c = (omega arith, none-cleared (c .pre .taken-size) (c .pre .put-size))
 
 loop-again : tie.Need-loop-again Inv-loop μ-loop
-loop-again c = (omega arith, one-cleared (omega (arith, c .loop-test .taken, c .before .before .pre .few)) (c .before .loop .inv .1))
+loop-again c = (
+  omega arith,
+  one-cleared (omega (arith, c .loop-test .taken, c .before .before .pre .few))
+      (c .before .loop .inv .1),
+)
 
 returns : tie.Need-returns Inv-loop μ-loop
 returns c =

@@ -26,18 +26,23 @@ returns c =
     let in-loop = c .before .before in
     let loop = in-loop .before .loop in
     sym
-    (first-is 128 _ (loop .p) (omega (arith, in-loop .loop-test .taken, in-loop .before .before .pre .0)) (lt-ltb 65535 _ (c .if1 .taken)) (loop .inv .1))
+    (first-is 128 _ (loop .p) (omega (arith, in-loop .loop-test .taken, in-loop .before .before .pre .0))
+    (lt-ltb 65535 _ (c .if1 .taken)) (loop .inv .1))
 
 loop-again : tie.Need-loop-again Inv-loop μ-loop
 loop-again c =
-    let in-loop = c .before .before in
-    (omega (arith, in-loop .loop-test .taken), below-more _ _ (in-loop .before .loop .inv .1) (le-ltb 65535 _ (c .if1 .left)))
+    let in-loop = c .before .before in (
+      omega (arith, in-loop .loop-test .taken),
+      below-more _ _ (in-loop .before .loop .inv .1) (le-ltb 65535 _ (c .if1 .left)),
+    )
 
 returns-2 : tie.Need-returns-2 Inv-loop μ-loop
 returns-2 c = sym (first-none 128 _ (λ p h. go p h (ltb p (c .before .before .args .n)) refl))
   where
-    go : (p : ℕ) → p < 128 → (b : Bool) → ltb p (c .before .before .args .n) ≡ b → ltb 65535 (getD (c .before .before .args .tokens .now) p 0) ≡ false
-    go p h true e = c .before .loop .inv .1 p (omega (arith, ltb-true p (c .before .before .args .n) e, c .loop-test .left))
+    go : (p : ℕ) → p < 128 → (b : Bool) → ltb p (c .before .before .args .n) ≡ b
+        → ltb 65535 (getD (c .before .before .args .tokens .now) p 0) ≡ false
+    go p h true e =
+        c .before .loop .inv .1 p (omega (arith, ltb-true p (c .before .before .args .n) e, c .loop-test .left))
     go p h false e = le-ltb 65535 _ (c .before .before .pre .1 p (ltb-false p (c .before .before .args .n) e) h)
 
 pub first-full-spec : {M : Type 1} → statement M

@@ -28,7 +28,14 @@ abbrev μ-loop : tie.MeasureT-loop
 loop-holds : tie.Need-loop-holds Inv-loop μ-loop
 loop-holds c =
     let pre = c .before .before .pre in
-    rw (c .count .ensures) record { chains = pre .chains; leads = pre .begins; size = pre .size; puts = λ p h. refl; room = pre .room }
+    rw (c .count .ensures) record {
+      chains = pre .chains;
+      leads = pre .begins;
+      size = pre .size;
+      puts =
+          λ p h. refl;
+      room = pre .room;
+    }
 
 -- The link leads to an arc: its three numbers are there, its place is one of the 128, and the chain goes down.
 record Here (posts put : List ℕ) (link : ℕ) : Type 0 where
@@ -38,7 +45,8 @@ record Here (posts put : List ℕ) (link : ℕ) : Type 0 where
   down : next-of posts (link - 1) ≤ link - 1
   room : getD put (place-of posts (link - 1)) 0 + weight-of posts (link - 1) < 4294967296
 
-here : (c : tie.In-loop Inv-loop μ-loop) → Here (c .before .before .before .before .args .posts .now) (c .before .loop .put) (c .before .loop .link)
+here : (c : tie.In-loop Inv-loop μ-loop)
+    → Here (c .before .before .before .before .args .posts .now) (c .before .loop .put) (c .before .loop .link)
 here c =
     let at = c .before .loop in
     let posts = c .before .before .before .before .args .posts .now in
@@ -55,7 +63,8 @@ here c =
       room = omega (
         arith,
         inv .room (place-of posts k) place,
-        rw (eq-eqb (place-of posts k) (place-of posts k) refl) at (given-arc posts (at .link) k (place-of posts k) next (inv .chains .down k is)),
+        rw (eq-eqb (place-of posts k) (place-of posts k) refl) at
+            (given-arc posts (at .link) k (place-of posts k) next (inv .chains .down k is)),
       );
     }
 
@@ -67,7 +76,14 @@ abbrev placed : tie.After-wide Inv-loop μ-loop → tie.After-count2 Inv-loop μ
 placed c = c .before .before .before
 
 add-put : tie.Need-add-put Inv-loop μ-loop
-add-put c = omega (arith, c .wide .ensures .0, ap (λ (p : ℕ). getD (begun c .before .loop .put) p 0) (placed c .count2 .ensures), here (begun c))
+add-put c =
+    omega (
+      arith,
+      c .wide .ensures .0,
+      ap (λ (p : ℕ). getD (begun c .before .loop .put) p 0)
+          (placed c .count2 .ensures),
+      here (begun c),
+    )
 
 loop-again : tie.Need-loop-again Inv-loop μ-loop
 loop-again c =
@@ -77,7 +93,9 @@ loop-again c =
     let put = at .put in
     let h = here (begun wide) in
     let k : ℕ = at .link - 1 in
-    let adds = one-given posts put (at .link) k (wide .wide .result) (h .next) (h .down) (omega (arith, h .place, at .inv .size)) (wide .wide .ensures .0) in
+    let adds =
+    one-given posts put (at .link) k (wide .wide .result) (h .next) (h .down)
+    (omega (arith, h .place, at .inv .size)) (wide .wide .ensures .0) in
     rw (c .count3 .ensures, placed wide .count2 .ensures)
     record {
       chains = at .inv .chains;
@@ -92,7 +110,12 @@ returns c =
     let at = c .before .loop in
     record {
       size = at .inv .size;
-      puts = λ p h. omega (arith, at .inv .puts p h, given-none (c .before .before .before .before .args .posts .now) (at .link) p (c .loop-test .left));
+      puts =
+          λ p h. omega (
+            arith,
+            at .inv .puts p h,
+            given-none (c .before .before .before .before .args .posts .now) (at .link) p (c .loop-test .left),
+          );
     }
 
 pub give-spec : {M : Type 1} → statement M

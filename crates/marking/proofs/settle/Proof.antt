@@ -1,4 +1,5 @@
--- The sweep, the tending and the clearing do their parts; a place is full only if all bits of the new tokens together are more than 65,535.
+-- The sweep, the tending and the clearing do their parts; a place is full only if all bits of the new tokens together
+-- are more than 65,535.
 use mathlib.Core.Bool.{Bool, cond, true, false}
 use mathlib.Core.Logic.{inl, inr}
 use mathlib.Core.Path.{_≡_, refl, _∙_}
@@ -8,7 +9,8 @@ use lib.ListN.{getD}
 use borrow.Author.Needs.{needs}
 use borrow.Author.Tests.{ltb-false}
 use Rattle.meaning.specs.Below.{first}
-use Rattle.marking.proofs.Settling.{sweep-asks, tokens-are, behind-low, none-full, tend-asks, levels-hold, starves}
+use Rattle.marking.proofs.Settling.{sweep-asks, tokens-are, behind-low, none-full, tend-asks, levels-hold}
+use Rattle.marking.proofs.Settling.{starves}
 use Rattle.marking.proofs.settle.Statement.{statement}
 use Rattle.marking.proofs.settle.Tie as tie
 
@@ -55,11 +57,17 @@ returns c =
       taken-size = cleared .taken-size;
       put-size = cleared .put-size;
       tokens-are = tokens-are pre (swept .sweep .ensures);
-      no-taken = λ p h. cleared .no-taken p ∙ none (ltb p (begun swept .args .n)) (λ e. pre .none-taken p (ltb-false p (begun swept .args .n) e) h);
-      no-put = λ p h. cleared .no-put p ∙ none (ltb p (begun swept .args .n)) (λ e. pre .none-put p (ltb-false p (begun swept .args .n) e) h);
+      no-taken =
+          λ p h. cleared .no-taken p ∙ none (ltb p (begun swept .args .n))
+          (λ e. pre .none-taken p (ltb-false p (begun swept .args .n) e) h);
+      no-put =
+          λ p h. cleared .no-put p ∙ none (ltb p (begun swept .args .n))
+          (λ e. pre .none-put p (ltb-false p (begun swept .args .n) e) h);
       full-is = full-is joined;
       levels-hold = levels-hold pre (swept .sweep .ensures) (tend .tend .ensures);
-      starved-are = λ t. starves pre (swept .sweep .ensures) (tend .tend .ensures) t (c .before .before .before .union .ensures t);
+      starved-are =
+          λ t. starves pre (swept .sweep .ensures) (tend .tend .ensures) t
+          (c .before .before .before .union .ensures t);
     }
   where
     none : {k : ℕ} (b : Bool) → (b ≡ false → k ≡ 0) → cond b 0 k ≡ 0

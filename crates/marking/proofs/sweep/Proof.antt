@@ -10,7 +10,8 @@ use Rattle.marking.proofs.sweep.Statement.{statement}
 use Rattle.marking.proofs.sweep.Tie as tie
 
 abbrev Inv-loop : tie.InvT-loop
-Inv-loop tokens₀ taken put levels₀ n all₀ p₀ tokens levels all p = (p ≤ n) × Swept p tokens₀ taken put levels₀ tokens levels all
+Inv-loop tokens₀ taken put levels₀ n all₀ p₀ tokens levels all p =
+    (p ≤ n) × Swept p tokens₀ taken put levels₀ tokens levels all
 
 abbrev μ-loop : tie.MeasureT-loop
 μ-loop tokens₀ taken put levels₀ n all₀ p₀ tokens levels all p = n - p
@@ -18,10 +19,12 @@ abbrev μ-loop : tie.MeasureT-loop
 loop-holds : tie.Need-loop-holds Inv-loop μ-loop
 loop-holds c = (omega arith, none-swept 0 (c .pre .tokens-size) (c .pre .levels-size))
 
--- The place at hand has what is taken from it, at most 65,535 tokens, no more is put than 1,024 arcs can put, and its level is low.
+-- The place at hand has what is taken from it, at most 65,535 tokens, no more is put than 1,024 arcs can put, and its
+-- level is low.
 record Here (c : tie.In-loop Inv-loop μ-loop) : Type 0 where
   place : c .before .loop .p < 128
-  pays : getD (c .before .before .args .taken .now) (c .before .loop .p) 0 ≤ getD (c .before .loop .tokens) (c .before .loop .p) 0
+  pays : getD (c .before .before .args .taken .now) (c .before .loop .p) 0 ≤ getD (c .before .loop .tokens)
+      (c .before .loop .p) 0
   tokens-low : getD (c .before .loop .tokens) (c .before .loop .p) 0 ≤ 65535
   put-low : getD (c .before .before .args .put .now) (c .before .loop .p) 0 ≤ 67107840
   from-low : getD (c .before .loop .levels) (c .before .loop .p) 0 < 2147483648
@@ -52,8 +55,10 @@ loop-again : tie.Need-loop-again Inv-loop μ-loop
 loop-again c =
     let in-loop = c .before .before .before .before .before .before .before in
     let loop = in-loop .before .loop in
-    let most = c .together .ensures in
-    (omega (arith, in-loop .loop-test .taken), one-swept (here in-loop .place) (loop .inv .1) _ _ (c .before .left-it .ensures) (most .0) (most .1))
+    let most = c .together .ensures in (
+      omega (arith, in-loop .loop-test .taken),
+      one-swept (here in-loop .place) (loop .inv .1) _ _ (c .before .left-it .ensures) (most .0) (most .1),
+    )
 
 returns : tie.Need-returns Inv-loop μ-loop
 returns c =

@@ -7,8 +7,7 @@ use lib.Dec.{eqb}
 use lib.ListN.{length, getD}
 use borrow.Author.Needs.{needs}
 use Rattle.meaning.specs.Bytes.{bit}
-use Rattle.sets.proofs.Members.{lowest-in, falls}
-use Rattle.marking.proofs.Walk.{without}
+use Rattle.sets.proofs.Members.{lowest-in, falls, without}
 use Rattle.marking.proofs.Taking.{Taking, begins, ends, one-taken}
 use Rattle.marking.proofs.take.Statement.{statement}
 use Rattle.marking.proofs.take.Tie as tie
@@ -23,15 +22,18 @@ loop-holds : tie.Need-loop-holds Inv-loop μ-loop
 loop-holds c = begins (omega arith) (c .pre .size)
 
 -- The member that is taken is below 64, and in what is left.
-member : (c : tie.After-lowest Inv-loop μ-loop) → (c .lowest .result < 64) × (bit (c .before .before .loop .left) (c .lowest .result) ≡ true)
+member : (c : tie.After-lowest Inv-loop μ-loop)
+    → (c .lowest .result < 64) × (bit (c .before .before .loop .left) (c .lowest .result) ≡ true)
 member c =
-    lowest-in (c .before .before .loop .left) (c .lowest .result) (c .before .before .loop .inv .word-low) (c .before .loop-test .taken) (c .lowest .ensures)
+    lowest-in (c .before .before .loop .left) (c .lowest .result) (c .before .before .loop .inv .word-low)
+    (c .before .loop-test .taken) (c .lowest .ensures)
 
 -- Its place is one of the 128, has a row of weights, and has room for one more weight.
 record Here (c : tie.After-lowest Inv-loop μ-loop) : Type 0 where
   place : c .before .before .before .args .from + c .lowest .result < 128
   row : c .before .before .before .args .from + c .lowest .result < length (c .before .before .before .args .w .now)
-  room : getD (c .before .before .loop .taken) (c .before .before .before .args .from + c .lowest .result) 0 ≤ 4294901760
+  room : getD (c .before .before .loop .taken) (c .before .before .before .args .from + c .lowest .result) 0 ≤
+      4294901760
   transition : c .before .before .before .args .u < 64
 
 here : (c : tie.After-lowest Inv-loop μ-loop) → Here c
@@ -42,7 +44,8 @@ here c =
     record {
       place = omega (arith, k .0, pre .half);
       row = pre .weights-there (c .lowest .result) (k .0) (inv .within (c .lowest .result) (k .1));
-      room = omega (arith, rw (k .1) at (inv .at-most (c .lowest .result) (k .0)), pre .room (c .lowest .result) (k .0));
+      room =
+          omega (arith, rw (k .1) at (inv .at-most (c .lowest .result) (k .0)), pre .room (c .lowest .result) (k .0));
       transition = pre .transition;
     }
 
@@ -65,7 +68,8 @@ loop-again c =
     let at = asked c .before .before .loop in
     let k = member (asked c) in
     let wide = c .before .before .before .wide in
-    one-taken (at .inv) (asked c .before .before .before .pre .half) (asked c .lowest .result) (c .rest .result) (wide .result) (c .before .union .result)
+    one-taken (at .inv) (asked c .before .before .before .pre .half) (asked c .lowest .result) (c .rest .result)
+    (wide .result) (c .before .union .result)
     (k .0) (k .1) (omega arith) (rested c) (wide .ensures .0) (wide .ensures .1) (c .before .union .ensures)
 
 returns : tie.Need-returns Inv-loop μ-loop

@@ -1,4 +1,5 @@
--- The loop keeps that what is moved and what the members left are still to move is what all move, and so with the functions and with who lacks tokens.
+-- The loop keeps that what is moved and what the members left are still to move is what all move, and so with the
+-- functions and with who lacks tokens.
 use mathlib.Core.Bool.{Bool, true, not, _&&_, _||_}
 use mathlib.Core.Path.{_≡_, refl, sym, ap, _∙_}
 use Prim.Native.Nat.{ℕ, _+_, _*_, _≤_, _<_}
@@ -8,9 +9,8 @@ use lib.Dec.{eqb}
 use lib.ListN.{getD}
 use borrow.Author.Needs.{needs}
 use Rattle.meaning.specs.Bytes.{bit}
-use Rattle.sets.proofs.Members.{lowest-in, falls}
+use Rattle.sets.proofs.Members.{lowest-in, falls, without}
 use Rattle.rows.specs.Rows.{takers}
-use Rattle.marking.proofs.Walk.{without}
 use Rattle.marking.proofs.Tallying.{Tallying, both-halves, begins, ends, put-room, one-tallied}
 use Rattle.marking.proofs.tally.Statement.{statement}
 use Rattle.marking.proofs.tally.Tie as tie
@@ -33,10 +33,13 @@ begun c = c .before .before .before .before .before
 
 -- The member that is tallied is below 64, in what is left, and fires.
 member : (c : tie.After-lowest Inv-loop μ-loop)
-    → (c .lowest .result < 64) × (bit (c .before .before .loop .left) (c .lowest .result) ≡ true) × (bit (begun c .args .fired) (c .lowest .result) ≡ true)
+    → (c .lowest .result < 64) × (bit (c .before .before .loop .left) (c .lowest .result) ≡ true)
+    × (bit (begun c .args .fired) (c .lowest .result) ≡ true)
 member c =
     let at = c .before .before .loop in
-    let k = lowest-in (at .left) (c .lowest .result) (at .inv .word-low) (c .before .loop-test .taken) (c .lowest .ensures) in
+    let k =
+    lowest-in (at .left) (c .lowest .result) (at .inv .word-low) (c .before .loop-test .taken)
+    (c .lowest .ensures) in
     (k .0, k .1, at .inv .within (c .lowest .result) (k .1))
 
 -- Where the turn asked for its member.
@@ -45,17 +48,20 @@ asked c = c .before .before
 
 -- The places of the member, 0 to 63 and from 64 on, are those of the rows.
 low-is : (c : tie.After-lowest Inv-loop μ-loop) (p : ℕ) → p < 64
-    → bit (getD (begun c .args .arcs .now) (5 * c .lowest .result + 2) 0) p ≡ bit (takers (begun c .args .rows .now) p) (c .lowest .result)
+    → bit (getD (begun c .args .arcs .now) (5 * c .lowest .result + 2) 0) p
+    ≡ bit (takers (begun c .args .rows .now) p) (c .lowest .result)
 low-is c p h = begun c .pre .takes-low-is (c .lowest .result) p (member c .0) h
 
 high-is : (c : tie.After-lowest Inv-loop μ-loop) (p : ℕ) → p < 64
-    → bit (getD (begun c .args .arcs .now) (5 * c .lowest .result + 2 + 1) 0) p ≡ bit (takers (begun c .args .rows .now) (64 + p)) (c .lowest .result)
+    → bit (getD (begun c .args .arcs .now) (5 * c .lowest .result + 2 + 1) 0) p
+    ≡ bit (takers (begun c .args .rows .now) (64 + p)) (c .lowest .result)
 high-is c p h =
     let next : 5 * c .lowest .result + 2 + 1 ≡ 5 * c .lowest .result + 3 = omega arith in
     rw next (begun c .pre .takes-high-is (c .lowest .result) p (member c .0) h)
 
 -- What is taken so far leaves room for one more weight.
-roomy : (c : tie.After-lowest Inv-loop μ-loop) (p : ℕ) → p < 128 → getD (c .before .before .loop .taken) p 0 ≤ 4294901760
+roomy : (c : tie.After-lowest Inv-loop μ-loop) (p : ℕ) → p < 128
+    → getD (c .before .before .loop .taken) p 0 ≤ 4294901760
 roomy c p h = omega (arith, c .before .before .loop .inv .taken-low p h)
 
 take-requires : tie.Need-take-requires Inv-loop μ-loop
@@ -66,7 +72,9 @@ take-requires c κs =
       half = omega arith;
       transition = member d .0;
       size = d .before .before .loop .inv .taken-size;
-      weights-there = λ p h e. rw (zero-add p) (pre .weights-there (d .lowest .result) p (member d .2) (omega arith) (sym (low-is d p h) ∙ e));
+      weights-there =
+          λ p h e. rw (zero-add p) (pre .weights-there (d .lowest .result) p (member d .2) (omega arith)
+          (sym (low-is d p h) ∙ e));
       room = λ p h. roomy d (0 + p) (omega arith);
     }
 
@@ -79,7 +87,9 @@ take-requires-2 c κs =
       half = omega arith;
       transition = member d .0;
       size = first .take .ensures .size;
-      weights-there = λ p h e. pre .weights-there (d .lowest .result) (64 + p) (member d .2) (omega arith) (sym (high-is d p h) ∙ e);
+      weights-there =
+          λ p h e. pre .weights-there (d .lowest .result) (64 + p) (member d .2) (omega arith)
+          (sym (high-is d p h) ∙ e);
       room = λ p h. omega (arith, first .take .ensures .behind (64 + p) (omega arith), roomy d (64 + p) (omega arith));
     }
 
@@ -123,9 +133,11 @@ loop-again c =
     let at = d .before .before .loop in
     let k = member d in
     one-tallied (at .inv) (d .lowest .result) (c .rest .result) (k .0) (k .1) (omega arith) (rested c)
-    (both-halves (low-is d) (high-is d) (second .before .take .ensures) (third .before .take2 .ensures)) (c .before .give .ensures)
+    (both-halves (low-is d) (high-is d) (second .before .take .ensures) (third .before .take2 .ensures))
+    (c .before .give .ensures)
     (first .union .ensures)
-    (λ j. third .union3 .ensures j ∙ ap (λ (b : Bool). b || bit (third .before .take2 .result) j) (second .union2 .ensures j))
+    (λ j. third .union3 .ensures j ∙ ap (λ (b : Bool). b || bit (third .before .take2 .result) j)
+    (second .union2 .ensures j))
 
 returns : tie.Need-returns Inv-loop μ-loop
 returns c = ends (c .before .loop .inv) _ refl refl (c .loop-test .left)

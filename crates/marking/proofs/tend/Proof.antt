@@ -14,7 +14,8 @@ use Rattle.marking.proofs.tend.Statement.{statement}
 use Rattle.marking.proofs.tend.Tie as tie
 
 abbrev Inv-loop : tie.InvT-loop
-Inv-loop tokens put kept₀ levels₀ rows w s n starved₀ p₀ kept levels starved p = (p ≤ n) × Tending p rows w s tokens put levels₀ kept levels starved
+Inv-loop tokens put kept₀ levels₀ rows w s n starved₀ p₀ kept levels starved p =
+    (p ≤ n) × Tending p rows w s tokens put levels₀ kept levels starved
 
 abbrev μ-loop : tie.MeasureT-loop
 μ-loop tokens put kept₀ levels₀ rows w s n starved₀ p₀ kept levels starved p = n - p
@@ -34,7 +35,8 @@ record Here (c : tie.In-loop Inv-loop μ-loop) : Type 0 where
   row : 8 * c .before .loop .p + 8 ≤ length (begun c .args .rows .now)
   weights : c .before .loop .p < length (begun c .args .w .now)
   sorts : c .before .loop .p < length (begun c .args .s .now)
-  put-in : getD (begun c .args .put .now) (c .before .loop .p) 0 ≤ getD (begun c .args .tokens .now) (c .before .loop .p) 0
+  put-in : getD (begun c .args .put .now) (c .before .loop .p) 0 ≤ getD (begun c .args .tokens .now)
+      (c .before .loop .p) 0
 
 here : (c : tie.In-loop Inv-loop μ-loop) → Here c
 here c =
@@ -58,10 +60,13 @@ starved-more : (c : tie.Joined2 Inv-loop μ-loop)
     let a = begun in-loop .args in
     let p = in-loop .before .loop .p in
     (t : ℕ) → bit (c .if2 .starved) t
-    ≡ (bit (in-loop .before .loop .starved) t || fallen (a .rows .now) (a .w .now) (a .s .now) (a .levels .now) (rest-at (a .tokens .now) (a .put .now) p) p t)
+    ≡ (bit (in-loop .before .loop .starved) t
+    || fallen (a .rows .now) (a .w .now) (a .s .now) (a .levels .now) (rest-at (a .tokens .now) (a .put .now) p) p
+    t)
 starved-more c t =
     let in-loop = from-turn (c .before) in
-    let level = in-loop .before .loop .inv .1 .others (in-loop .before .loop .p) (omega arith) (here in-loop .place) .0 in
+    let level =
+    in-loop .before .loop .inv .1 .others (in-loop .before .loop .p) (omega arith) (here in-loop .place) .0 in
     elim (c .if2 .came) [
       | inl (fell, _, _, _, lacking, union, is) ↦
           ap (λ (x : ℕ). bit x t) is ∙ union .ensures t ∙ rw (lacking .ensures t, ← level, lt-ltb _ _ (fell .taken))
@@ -87,7 +92,8 @@ relevel-requires c κs =
 tended : (c : tie.Joined1 Inv-loop μ-loop)
     → let in-loop = c .before .before in
     let a = begun in-loop .args in
-    Tending (in-loop .before .loop .p + 1) (a .rows .now) (a .w .now) (a .s .now) (a .tokens .now) (a .put .now) (a .levels .now) (c .if1 .kept)
+    Tending (in-loop .before .loop .p + 1) (a .rows .now) (a .w .now) (a .s .now) (a .tokens .now) (a .put .now)
+    (a .levels .now) (c .if1 .kept)
     (c .if1 .levels) (c .if1 .starved)
 tended c =
     let in-loop = c .before .before in
@@ -97,20 +103,43 @@ tended c =
       | inl (if1, new, rest, from, if2, outside-arg, outside, if3, arg, arg2, relevel, kept-is, levels-is, starved-is) ↦
           let at : tie.Joined2 Inv-loop μ-loop =
           record {
-            before = record { before = record { before = record { before = record { before = c .before; if1 = if1 }; new = new }; rest = rest }; from = from };
+            before =
+                record {
+                  before = record {
+                    before = record {
+                      before = record { before = c .before; if1 = if1 };
+                      new =
+                          new;
+                    };
+                    rest = rest;
+                  };
+                  from = from;
+                };
             if2 = if2;
           } in
           rw (kept-is, levels-is, starved-is) (one-relevelled place inv (relevel .ensures) (starved-more at))
       | inr (inl (if1, new, rest, from, if2, outside-arg, outside, if3, kept-is, levels-is, starved-is)) ↦
           let at : tie.Joined2 Inv-loop μ-loop =
           record {
-            before = record { before = record { before = record { before = record { before = c .before; if1 = if1 }; new = new }; rest = rest }; from = from };
+            before =
+                record {
+                  before = record {
+                    before = record {
+                      before = record { before = c .before; if1 = if1 };
+                      new =
+                          new;
+                    };
+                    rest = rest;
+                  };
+                  from = from;
+                };
             if2 = if2;
           } in
           rw (kept-is, levels-is, starved-is)
           (one-stays place inv (not-outside _ _ _ (sym (outside .ensures) ∙ if3 .left)) (starved-more at))
       | inr (inr (if1, kept-is, levels-is, starved-is)) ↦
-          rw (kept-is, levels-is, starved-is) (unmarked place inv (begun in-loop .pre .marked _ (in-loop .loop-test .taken)) (if1 .left))
+          rw (kept-is, levels-is, starved-is) (unmarked place inv
+          (begun in-loop .pre .marked _ (in-loop .loop-test .taken)) (if1 .left))
     ]
 
 loop-again : tie.Need-loop-again Inv-loop μ-loop

@@ -9,7 +9,8 @@ second : (a b : ℕ) → b ≤ bitOr a b
 second a b = omega (arith, or-add-and a b, and-le-l a b)
 
 returns : tie.Need-returns
-returns c = (rw (or-comm (c .args .x) (c .args .y)) (second (c .args .y) (c .args .x)), second (c .args .x) (c .args .y))
+returns c =
+    (rw (or-comm (c .args .x) (c .args .y)) (second (c .args .y) (c .args .x)), second (c .args .x) (c .args .y))
 
 pub together-spec : {M : Type 1} → statement M
 together-spec = tie.close (tie.spec returns)

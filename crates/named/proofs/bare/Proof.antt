@@ -9,10 +9,14 @@ use Rattle.named.proofs.bare.Statement.{statement}
 use Rattle.named.proofs.bare.Tie as tie
 
 returns : tie.Need-returns
-returns c = c .has-place .ensures ∙ rw (has-none (c .before .before .args .arcs) (omega arith) (c .before .if1 .taken)) (sym (and-true _))
+returns c =
+    c .has-place .ensures ∙ rw (has-none (c .before .before .args .arcs) (omega arith) (c .before .if1 .taken))
+    (sym (and-true _))
 
 returns-2 : tie.Need-returns-2
-returns-2 c = rw (has-some (c .before .args .arcs) (omega arith) (c .if1 .left)) (sym (and-false (has (c .before .args .k) (c .before .args .p))))
+returns-2 c =
+    rw (has-some (c .before .args .arcs) (omega arith) (c .if1 .left))
+    (sym (and-false (has (c .before .args .k) (c .before .args .p))))
 
 pub bare-spec : {M : Type 1} → statement M
 bare-spec = tie.close (tie.spec (λ c κs. search needs) returns returns-2)

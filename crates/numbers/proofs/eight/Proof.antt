@@ -14,10 +14,15 @@ returns c =
     let start = first .before .before .before .before .before .before in
     let fits : start .args .at + 8 ≤ length (now (start .args .bytes)) = start .pre in
     c .whole .ensures
-    ∙ halves (now (start .args .bytes)) (start .args .at) (first .four .result) (c .before .four2 .result) fits (first .four .ensures .0)
+    ∙ halves (now (start .args .bytes)) (start .args .at) (first .four .result) (c .before .four2 .result) fits
+    (first .four .ensures .0)
     (c .before .four2 .ensures .0)
 
 pub eight-spec : {M : Type 1} → statement M
-eight-spec = tie.close (tie.spec (λ c. search needs) (λ c. search needs) (λ c. search needs) (λ c. search needs) (λ c. search needs) (λ c. search needs)
-    (λ c. search needs) (λ c κs. search needs) (λ c. search needs) (λ c. search needs) (λ c. search needs) (λ c. search needs)
-    (λ c. search needs) (λ c. search needs) (λ c. search needs) (λ c. search needs) (λ c κs. search needs) (λ c κs. search needs) returns)
+eight-spec =
+    tie.close (tie.spec (λ c. search needs) (λ c. search needs) (λ c. search needs) (λ c. search needs)
+    (λ c. search needs) (λ c. search needs)
+    (λ c. search needs) (λ c κs. search needs) (λ c. search needs) (λ c. search needs) (λ c. search needs)
+    (λ c. search needs)
+    (λ c. search needs) (λ c. search needs) (λ c. search needs) (λ c. search needs) (λ c κs. search needs)
+    (λ c κs. search needs) returns)

@@ -9,7 +9,8 @@ use Rattle.numbers.proofs.put_eight.Statement.{statement}
 use Rattle.numbers.proofs.put_eight.Tie as tie
 
 abbrev Inv-loop : tie.InvT-loop
-Inv-loop out₀ at x rest₀ i₀ out rest i = (i ≤ 8) × (length out ≡ length out₀) × (to-be out at i rest ≡ to-be out₀ at 0 x)
+Inv-loop out₀ at x rest₀ i₀ out rest i =
+    (i ≤ 8) × (length out ≡ length out₀) × (to-be out at i rest ≡ to-be out₀ at 0 x)
 
 abbrev μ-loop : tie.MeasureT-loop
 μ-loop out₀ at x rest₀ i₀ out rest i = 8 - i
@@ -22,7 +23,8 @@ loop-again c =
     let at = c .before .loop in (
       omega arith,
       simp length-set (at .inv .1),
-      one-stored (at .out) (c .before .before .args .at) (at .i) (at .rest) (c .loop-test .taken) (omega (arith, at .inv .1, c .before .before .pre))
+      one-stored (at .out) (c .before .before .args .at) (at .i) (at .rest) (c .loop-test .taken)
+          (omega (arith, at .inv .1, c .before .before .pre))
           ∙ at .inv .2,
     )
 

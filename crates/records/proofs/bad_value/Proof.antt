@@ -10,9 +10,6 @@ use Rattle.records.proofs.bad_value.Tie as tie
 returns : tie.Need-returns
 returns c = rw (c .if1 .taken) (sym (or-false _))
 
-interval-requires : tie.Need-interval-requires
-interval-requires c κs = search needs
-
 returns-2 : tie.Need-returns-2
 returns-2 c = rw (c .before .if2 .taken, c .interval .ensures)
 
@@ -20,4 +17,4 @@ returns-3 : tie.Need-returns-3
 returns-3 c = rw (ne-eqb _ _ (c .before .if1 .left), ne-eqb _ _ (c .if2 .left))
 
 pub bad-value-spec : {M : Type 1} → statement M
-bad-value-spec = tie.close (tie.spec returns interval-requires returns-2 returns-3)
+bad-value-spec = tie.close (tie.spec returns (λ c κs. search needs) returns-2 returns-3)

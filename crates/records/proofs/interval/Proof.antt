@@ -1,4 +1,5 @@
--- Each sort's branch asks what the list of the meaning asks at that sort; an interval that starts at 0, or of no sort, is refused.
+-- Each sort's branch asks what the list of the meaning asks at that sort; an interval that starts at 0, or of no sort,
+-- is refused.
 use borrow.Author.Tests.{le-leb, lt-leb, ne-eqb}
 use Rattle.meaning.specs.Defined.{interval}
 use Rattle.meaning.proofs.Shows.{nonzero}
@@ -20,11 +21,13 @@ returns-3 c = rw (c .if3 .taken, no-start _ _ (c .before .if1 .left))
 
 returns-4 : tie.Need-returns-4
 unfolding interval-of interval
-returns-4 c = rw (c .before .if4 .taken, le-leb 1 _ (nonzero _ (c .before .before .if3 .left)), le-leb _ _ (c .if5 .taken))
+returns-4 c =
+    rw (c .before .if4 .taken, le-leb 1 _ (nonzero _ (c .before .before .if3 .left)), le-leb _ _ (c .if5 .taken))
 
 returns-5 : tie.Need-returns-5
 unfolding interval-of interval
-returns-5 c = rw (c .before .if4 .taken, le-leb 1 _ (nonzero _ (c .before .before .if3 .left)), lt-leb _ _ (c .if5 .left))
+returns-5 c =
+    rw (c .before .if4 .taken, le-leb 1 _ (nonzero _ (c .before .before .if3 .left)), lt-leb _ _ (c .if5 .left))
 
 returns-6 : tie.Need-returns-6
 unfolding interval-of interval

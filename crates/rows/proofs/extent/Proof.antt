@@ -27,7 +27,8 @@ loop-again c =
     let start = c .before .before .before .before .before in
     let read = inside (start .args .t .now) (at .r) (omega arith) .one in (
       omega arith,
-      c .larger .ensures ∙ ap₂ larger-of (at .inv .1) read ∙ ap (top (table (start .args .t .now))) (sym (add-one (at .r))),
+      c .larger .ensures ∙ ap₂ larger-of (at .inv .1) read
+          ∙ ap (top (table (start .args .t .now))) (sym (add-one (at .r))),
       omega arith,
     )
 
@@ -45,4 +46,6 @@ returns c =
 pub extent-spec : {M : Type 1} → statement M
 extent-spec =
     tie.close
-    (tie.spec Inv-loop μ-loop loop-holds (λ c. search needs) (λ c. search needs) (λ c. search needs) (λ c κs. search needs) (λ c. search needs) (λ c. search needs) loop-again (λ c κs. search needs) add-result returns)
+    (tie.spec Inv-loop μ-loop loop-holds (λ c. search needs) (λ c. search needs) (λ c. search needs)
+    (λ c κs. search needs) (λ c. search needs) (λ c. search needs) loop-again (λ c κs. search needs) add-result
+    returns)

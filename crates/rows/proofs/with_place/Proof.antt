@@ -1,11 +1,11 @@
 -- The place joins the set of its half, and the other half stays.
 use mathlib.Core.Bool.{Bool, true, false, cond, _||_, or-false}
 use mathlib.Core.Path.{_≡_, refl, sym, ap, _∙_}
-use Prim.Native.Nat.{ℕ, _-_, _≤_, _<_}
+use Prim.Native.Nat.{ℕ, _-_, _≤_}
 use native.Mathlib.Omega.{arith}
 use lib.Dec.{eqb, ltb}
 use borrow.Author.Needs.{needs}
-use borrow.Author.Tests.{lt-ltb, le-ltb, ltb-true, ltb-false, ne-eqb, eqb-true, eqb-false, eq-eqb}
+use borrow.Author.Tests.{ltb-true, ltb-false, ne-eqb, eqb-true, eqb-false, eq-eqb}
 use Rattle.meaning.specs.Bytes.{bit}
 use Rattle.rows.specs.Rows.{has}
 use Rattle.rows.proofs.with_place.Statement.{statement}
@@ -30,8 +30,11 @@ returns c = (λ q h. go q (ltb q 64) refl, refl)
 
     go : (q : ℕ) (x : Bool) → ltb q 64 ≡ x
         → cond (ltb q 64) (bit (c .union .result) q) (bit (c .before .before .before .args .k .high) (q - 64))
-        ≡ (cond (ltb q 64) (bit (c .before .before .before .args .k .low) q) (bit (c .before .before .before .args .k .high) (q - 64)) || eqb p q)
-    go q true e = rw (e) (c .union .ensures q ∙ ap (λ (b : Bool). bit (c .before .before .before .args .k .low) q || b) (c .before .single .ensures q))
+        ≡ (cond (ltb q 64) (bit (c .before .before .before .args .k .low) q)
+        (bit (c .before .before .before .args .k .high) (q - 64)) || eqb p q)
+    go q true e =
+        rw (e) (c .union .ensures q ∙ ap (λ (b : Bool). bit (c .before .before .before .args .k .low) q || b)
+        (c .before .single .ensures q))
     go q false e =
         let no : ¬ (p ≡ q) = λ z. omega (arith, ltb-false q 64 e, c .before .before .if1 .taken) in
         rw (e, ne-eqb p q no) (sym (or-false _))
@@ -45,7 +48,8 @@ returns-2 c = (λ q h. go q (ltb q 64) refl, refl)
 
     go : (q : ℕ) (x : Bool) → ltb q 64 ≡ x
         → cond (ltb q 64) (bit (c .before .before .before .args .k .low) q) (bit (c .union2 .result) (q - 64))
-        ≡ (cond (ltb q 64) (bit (c .before .before .before .args .k .low) q) (bit (c .before .before .before .args .k .high) (q - 64)) || eqb p q)
+        ≡ (cond (ltb q 64) (bit (c .before .before .before .args .k .low) q)
+        (bit (c .before .before .before .args .k .high) (q - 64)) || eqb p q)
     go q true e =
         let no : ¬ (p ≡ q) = λ z. omega (arith, ltb-true q 64 e, c .before .before .if1 .left) in
         rw (e, ne-eqb p q no) (sym (or-false _))
@@ -58,4 +62,5 @@ returns-2 c = (λ q h. go q (ltb q 64) refl, refl)
 pub with-place-spec : {M : Type 1} → statement M
 with-place-spec =
     tie.close
-    (tie.spec (λ c κs. search needs) (λ c κs. search needs) (λ c κs. search needs) (λ c κs. search needs) returns returns-2)
+    (tie.spec (λ c κs. search needs) (λ c κs. search needs) (λ c κs. search needs) (λ c κs. search needs) returns
+    returns-2)

@@ -9,8 +9,11 @@ use Rattle.rows.proofs.with_transition.Tie as tie
 
 returns : tie.Need-returns
 unfolding has
-returns c =
-    (λ u. c .union .ensures u ∙ ap (λ (b : Bool). bit (c .before .before .args .k .transitions) u || b) (c .before .single .ensures u), λ q. refl)
+returns c = (
+  λ u. c .union .ensures u ∙ ap (λ (b : Bool). bit (c .before .before .args .k .transitions) u || b)
+      (c .before .single .ensures u),
+  λ q. refl,
+)
 
 pub with-transition-spec : {M : Type 1} → statement M
 with-transition-spec = tie.close (tie.spec (λ c κs. search needs) (λ c κs. search needs) returns)

@@ -17,7 +17,8 @@ use Rattle.scan.proofs.enter.Statement.{statement}
 use Rattle.scan.proofs.enter.Tie as tie
 
 -- Whoever is alone in a set meets a row exactly if the row has it.
-met : (line alone y : ℕ) → y < 64 → ((j : ℕ) → bit alone j ≡ eqb y j) → some 64 (λ k. bit line k && bit alone k) ≡ bit line y
+met : (line alone y : ℕ) → y < 64 → ((j : ℕ) → bit alone j ≡ eqb y j)
+    → some 64 (λ k. bit line k && bit alone k) ≡ bit line y
 met line alone y low is =
     same-test (some 64 (λ k. bit line k && bit alone k)) (bit line y)
     (λ e.
@@ -30,18 +31,23 @@ met line alone y low is =
 had : (rows : List ℕ) (q y : ℕ) → bit (getD rows q 0) y ≡ true → Entered rows q y rows
 had rows q y e = record { size = refl; holds = λ k j. go k j (eqb q k) (eqb y j) refl refl }
   where
-    go : (k j : ℕ) (a b : Bool) → eqb q k ≡ a → eqb y j ≡ b → bit (getD rows k 0) j ≡ (bit (getD rows k 0) j || (a && b))
+    go : (k j : ℕ) (a b : Bool) → eqb q k ≡ a → eqb y j ≡ b
+        → bit (getD rows k 0) j ≡ (bit (getD rows k 0) j || (a && b))
     go k j true true x z = rw (← eqb-true q k x, ← eqb-true y j z, e)
     go k j true false x z = sym (or-false (bit (getD rows k 0) j))
     go k j false b x z = sym (or-false (bit (getD rows k 0) j))
 
 -- A row that is stored with y beside what it had.
-gets : (rows : List ℕ) (q y line : ℕ) → q < length rows → ((j : ℕ) → bit line j ≡ (bit (getD rows q 0) j || eqb y j)) → Entered rows q y (set rows q line)
+gets : (rows : List ℕ) (q y line : ℕ) → q < length rows → ((j : ℕ) → bit line j ≡ (bit (getD rows q 0) j || eqb y j))
+    → Entered rows q y (set rows q line)
 gets rows q y line there gains = record { size = length-set rows q line; holds = λ k j. go k j (eqb q k) refl }
   where
-    go : (k j : ℕ) (a : Bool) → eqb q k ≡ a → bit (getD (set rows q line) k 0) j ≡ (bit (getD rows k 0) j || (a && eqb y j))
+    go : (k j : ℕ) (a : Bool) → eqb q k ≡ a
+        → bit (getD (set rows q line) k 0) j ≡ (bit (getD rows k 0) j || (a && eqb y j))
     go k j true x = rw (← eqb-true q k x) (ap (λ (z : ℕ). bit z j) (getD-set-same rows q line 0 there) ∙ gains j)
-    go k j false x = ap (λ (z : ℕ). bit z j) (getD-set-other rows q k line 0 (λ z. eqb-false q k x (sym z))) ∙ sym (or-false (bit (getD rows k 0) j))
+    go k j false x =
+        ap (λ (z : ℕ). bit z j) (getD-set-other rows q k line 0 (λ z. eqb-false q k x (sym z)))
+        ∙ sym (or-false (bit (getD rows k 0) j))
 
 -- What meeting says of the bit.
 bit-there : (c : tie.After-meet)
@@ -49,7 +55,8 @@ bit-there : (c : tie.After-meet)
     c .meet .result ≡ bit (getD (start .args .rows .now) (start .args .q) 0) (start .args .y)
 bit-there c =
     c .meet .ensures
-    ∙ met _ (c .before .before .single .result) _ (c .before .before .before .before .pre .1) (c .before .before .single .ensures)
+    ∙ met _ (c .before .before .single .result) _ (c .before .before .before .before .pre .1)
+    (c .before .before .single .ensures)
 
 returns : tie.Need-returns
 returns c =
@@ -60,11 +67,13 @@ returns-2 : tie.Need-returns-2
 returns-2 c =
     let start = c .before .before .before .before .before .before in (
       sym (c .before .if1 .left) ∙ bit-there (c .before .before),
-      gets _ _ _ (c .union .result) (start .pre .0) (λ j. c .union .ensures j ∙ rw (c .before .before .before .before .single .ensures j)),
+      gets _ _ _ (c .union .result) (start .pre .0) (λ j. c .union .ensures j
+          ∙ rw (c .before .before .before .before .single .ensures j)),
     )
 
 pub enter-spec : {M : Type 1} → statement M
 enter-spec =
     tie.close
-    (tie.spec (λ c κs. search needs) (λ c. search needs) (λ c. search needs) (λ c κs. search needs) returns (λ c κs. search needs)
+    (tie.spec (λ c κs. search needs) (λ c. search needs) (λ c. search needs) (λ c κs. search needs) returns
+    (λ c κs. search needs)
     (λ c. search needs) (λ c. search needs) (λ c. search needs) returns-2)

@@ -1,5 +1,4 @@
 -- Either arm is the spec's, by its test.
-use mathlib.Core.Path.{_≡_, refl}
 use borrow.Author.Tests.{eq-eqb, ne-eqb}
 use Rattle.scan.proofs.last_of.Statement.{statement}
 use Rattle.scan.proofs.last_of.Tie as tie

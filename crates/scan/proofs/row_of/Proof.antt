@@ -1,7 +1,6 @@
 -- Of the kinds from 5 to 7 each has its row.
-use mathlib.Core.Path.{_≡_, refl, ap, _∙_}
+use mathlib.Core.Path.{_≡_, refl}
 use native.Mathlib.Omega.{arith}
-use Prim.Native.Nat.{ℕ, _≤_}
 use Rattle.scan.specs.Scan.{own-row}
 use Rattle.scan.proofs.row_of.Statement.{statement}
 use Rattle.scan.proofs.row_of.Tie as tie
@@ -18,7 +17,8 @@ returns-3 : tie.Need-returns-3
 unfolding own-row
 returns-3 c =
     let start = c .before .before in
-    let seven : start .args .kind ≡ 7 = omega (arith, start .pre .0, start .pre .1, c .if2 .left, c .before .if1 .left) in
+    let seven : start .args .kind ≡ 7 =
+    omega (arith, start .pre .0, start .pre .1, c .if2 .left, c .before .if1 .left) in
     rw seven (refl, omega arith)
 
 pub row-of-spec : {M : Type 1} → statement M

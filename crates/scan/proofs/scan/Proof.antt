@@ -1,16 +1,12 @@
 -- The loop keeps that no record before r has a fault, and that they are all filed; a record with a fault ends it.
-use mathlib.Core.Bool.{Bool, true, false, cond}
-use mathlib.Core.List.{List, []}
-use mathlib.Core.Logic.{⊎-elim}
+use mathlib.Core.List.{List}
 use mathlib.Core.Path.{_≡_, refl, sym, ap, _∙_}
-use Prim.Native.Nat.{ℕ, suc, _+_, _*_, _-_, _/_, _≤_, _<_}
-use native.Mathlib.Nat.{not-suc-le-zero}
+use Prim.Native.Nat.{ℕ, _*_, _-_, _/_, _≤_, _<_}
 use native.Mathlib.Numerals.{add-one}
 use native.Mathlib.Omega.{arith}
 use lib.ListN.{length, replicate, length-replicate}
 use borrow.Author.Needs.{needs}
-use Rattle.meaning.specs.Table.{Table, table}
-use Rattle.rows.specs.declared.Declared.{Declared}
+use Rattle.meaning.specs.Table.{table}
 use Rattle.scan.proofs.Sound.{one-there}
 use Rattle.scan.proofs.Passed.{Passed, passed-none, passed-one, ends-own, ends-again, ends-all, Same-sizes}
 use Rattle.scan.proofs.scan.Statement.{statement}
@@ -35,28 +31,37 @@ all : (bs : List ℕ) (r : ℕ) → r ≤ length bs / 8 → length bs / 8 ≤ r 
 all bs r h l = omega (arith, h, l, records-are bs)
 
 begins : tie.Need-loop-holds Inv-loop μ-loop
-begins c = (omega arith, passed-none _ (c .before .before .before .before .pre .1), record { rows-same = refl; weights-same = refl; sorts-same = refl; posts-same = refl })
+begins c = (
+  omega arith,
+  passed-none _ (c .before .before .before .before .pre .1),
+  record { rows-same = refl; weights-same = refl; sorts-same = refl; posts-same = refl },
+)
 
 keep-asks : tie.Need-keep-requires Inv-loop μ-loop
 keep-asks c κs =
-    let at = c .before .before .before .before .before .before .before .before .before .before .before .loop in
-    let start = c .before .before .before .before .before .before .before .before .before .before .before .before .before .before .before .before in
+    let test = c .before .before .before .before .before .before .before .before .before .before in
+    let at = test .before .loop in
+    let start = test .before .before .before .before .before .before in
     let bs = start .args .t .now in
     let reads = c .before .before .before .before .before .before .before .before .before .read .ensures in
-    let sound = sym (c .before .before .before .before .before .before .before .fault .ensures) ∙ c .before .before .before .before .before .before .if1 .left in
+    let sound =
+    sym (c .before .before .before .before .before .before .before .fault .ensures)
+    ∙ c .before .before .before .before .before .before .if1 .left in
     let blank = start .pre .1 in
     let same = at .inv .2 in
-    let here : at .r < table bs .records = inside bs (at .r) (c .before .before .before .before .before .before .before .before .before .before .loop-test .taken) in
+    let here : at .r < table bs .records =
+    inside bs (at .r) (test .loop-test .taken) in
     let one = blank .roomy (at .r) here (rw (reads .one) at (one-there _ sound)) in
     let rows-long = ap length (blank .no-rows) ∙ length-replicate {A = ℕ} (8 * length (start .args .w .now)) 0 in
-    let sorts-long = ap length (blank .no-sorts) ∙ length-replicate (length (start .args .w .now)) (replicate {A = ℕ} 64 0) in
+    let sorts-long =
+    ap length (blank .no-sorts) ∙ length-replicate (length (start .args .w .now)) (replicate {A = ℕ} 64 0) in
     record {
       sound = sound;
       rows-there = omega (arith, reads .one, one, same .rows-same, rows-long);
       weights-there = omega (arith, reads .one, one, same .weights-same);
       sorts-there = omega (arith, reads .one, one, same .sorts-same, sorts-long);
       heads-size = at .inv .1 .heads-size;
-      few = omega (arith, start .pre .0, c .before .before .before .before .before .before .before .before .before .before .loop-test .taken);
+      few = omega (arith, start .pre .0, test .loop-test .taken);
       posts-there = omega (arith, here, blank .posts-there, same .posts-same);
       times-size = at .inv .1 .times-size;
     }
@@ -64,25 +69,37 @@ keep-asks c κs =
 own-returns : tie.Need-returns Inv-loop μ-loop
 own-returns c =
     let at = c .before .before .before .before .before .loop in
-    ends-own (at .inv .1) (c .before .before .before .read .ensures) (inside _ (at .r) (c .before .before .before .before .loop-test .taken)) _ (c .before .fault .ensures) (c .if1 .taken)
+    ends-own (at .inv .1) (c .before .before .before .read .ensures)
+    (inside _ (at .r) (c .before .before .before .before .loop-test .taken)) _ (c .before .fault .ensures)
+    (c .if1 .taken)
 
 again-returns : tie.Need-returns-2 Inv-loop μ-loop
 again-returns c =
-    let at = c .before .before .before .before .before .before .before .before .before .before .before .before .before .before .before .before .before .before .before .loop in
-    let sound = sym (c .before .before .before .before .before .before .before .before .before .before .before .before .before .before .before .fault .ensures) ∙ c .before .before .before .before .before .before .before .before .before .before .before .before .before .before .if1 .left in
-    ends-again (at .inv .1) (c .before .before .before .before .before .before .before .before .before .before .before .before .before .before .before .before .before .read .ensures) sound (c .before .before .before .before .before .before .before .keep .ensures) (inside _ (at .r) (c .before .before .before .before .before .before .before .before .before .before .before .before .before .before .before .before .before .before .loop-test .taken)) (c .if2 .taken)
+    let keep = c .before .before .before .before .before .before .before in
+    let sound-own = keep .before .before .before .before .before .before .before in
+    let read = sound-own .before .before .before in
+    let at = read .before .before .loop in
+    let sound = sym (sound-own .before .fault .ensures) ∙ sound-own .if1 .left in
+    ends-again (at .inv .1) (read .read .ensures) sound (keep .keep .ensures)
+    (inside _ (at .r) (read .before .loop-test .taken)) (c .if2 .taken)
 
 more : tie.Need-add-r Inv-loop μ-loop
-more c = omega (arith, c .before .before .before .before .before .before .before .before .before .before .before .before .before .before .before .before .before .before .before .loop-test .taken, c .before .before .before .before .before .before .before .before .before .before .before .before .before .before .before .before .before .before .before .before .before .before .before .before .before .pre .0)
+more c =
+    let turn = c .before .before .before .before .before .before .before .before .before .before in
+    let test = turn .before .before .before .before .before .before .before .before .before in
+    omega (arith, test .loop-test .taken, test .before .before .before .before .before .before .pre .0)
 
 goes-on : tie.Need-loop-again Inv-loop μ-loop
 goes-on c =
-    let at = c .before .before .before .before .before .before .before .before .before .before .before .before .before .before .before .before .before .before .before .before .loop in
-    let sound = sym (c .before .before .before .before .before .before .before .before .before .before .before .before .before .before .before .before .fault .ensures) ∙ c .before .before .before .before .before .before .before .before .before .before .before .before .before .before .before .if1 .left in
-    let kept = c .before .before .before .before .before .before .before .before .keep .ensures in
+    let keep = c .before .before .before .before .before .before .before .before in
+    let sound-own = keep .before .before .before .before .before .before .before in
+    let read = sound-own .before .before .before in
+    let at = read .before .before .loop in
+    let sound = sym (sound-own .before .fault .ensures) ∙ sound-own .if1 .left in
+    let kept = keep .keep .ensures in
     let same = at .inv .2 in (
-      omega (arith, c .before .before .before .before .before .before .before .before .before .before .before .before .before .before .before .before .before .before .before .loop-test .taken),
-      rw (add-one (at .r)) (passed-one (at .inv .1) (c .before .before .before .before .before .before .before .before .before .before .before .before .before .before .before .before .before .before .read .ensures) sound kept (c .before .if2 .left)),
+      omega (arith, read .before .loop-test .taken),
+      rw (add-one (at .r)) (passed-one (at .inv .1) (read .read .ensures) sound kept (c .before .if2 .left)),
       record {
         rows-same = kept .room .rows-same ∙ same .rows-same;
         weights-same = kept .room .weights-same ∙ same .weights-same;
@@ -99,7 +116,13 @@ returns c =
 pub scan-spec : {M : Type 1} → statement M
 scan-spec =
     tie.close
-    (tie.spec Inv-loop μ-loop (λ c κs. search needs) begins (λ c κs. search needs) (λ c κs. search needs) (λ c. c .before .before .before .before .before .loop .inv .2 .rows-same) (λ c. c .before .before .before .before .before .loop .inv .2 .weights-same)
-    (λ c. c .before .before .before .before .before .loop .inv .2 .sorts-same) (λ c. c .before .before .before .before .before .loop .inv .2 .posts-same) own-returns keep-asks (λ c. search needs) (λ c. search needs) (λ c. search needs) (λ c. search needs) again-returns more (λ c. search needs) goes-on
-    (λ c. c .before .loop .inv .2 .rows-same) (λ c. c .before .loop .inv .2 .weights-same) (λ c. c .before .loop .inv .2 .sorts-same)
+    (tie.spec Inv-loop μ-loop (λ c κs. search needs) begins (λ c κs. search needs) (λ c κs. search needs)
+    (λ c. c .before .before .before .before .before .loop .inv .2 .rows-same)
+    (λ c. c .before .before .before .before .before .loop .inv .2 .weights-same)
+    (λ c. c .before .before .before .before .before .loop .inv .2 .sorts-same)
+    (λ c. c .before .before .before .before .before .loop .inv .2 .posts-same) own-returns keep-asks
+    (λ c. search needs) (λ c. search needs) (λ c. search needs) (λ c. search needs) again-returns more
+    (λ c. search needs) goes-on
+    (λ c. c .before .loop .inv .2 .rows-same) (λ c. c .before .loop .inv .2 .weights-same)
+    (λ c. c .before .loop .inv .2 .sorts-same)
     (λ c. c .before .loop .inv .2 .posts-same) returns)

@@ -7,9 +7,6 @@ use Rattle.sets.proofs.Bits.{bit-out}
 use Rattle.sets.proofs.has.Statement.{statement}
 use Rattle.sets.proofs.has.Tie as tie
 
-shr-result : tie.Need-shr-result
-shr-result c = search needs
-
 returns : tie.Need-returns
 unfolding bit
 returns c = refl
@@ -18,4 +15,4 @@ returns-2 : tie.Need-returns-2
 returns-2 c = sym (bit-out (c .before .args .s) (c .before .args .k) (omega arith) (omega arith))
 
 pub has-spec : {M : Type 1} → statement M
-has-spec = tie.close (tie.spec shr-result returns returns-2)
+has-spec = tie.close (tie.spec (λ c. search needs) returns returns-2)

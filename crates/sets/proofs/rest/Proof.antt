@@ -19,7 +19,8 @@ twice : (b : Bool) → (b && b) ≡ (b && true)
 twice true = refl
 twice false = refl
 
-less-one : (k a j : ℕ) → bit a k ≡ true → ((i : ℕ) → i < k → bit a i ≡ false) → (bit a j && bit (a - 1) j) ≡ (bit a j && not (eqb k j))
+less-one : (k a j : ℕ) → bit a k ≡ true → ((i : ℕ) → i < k → bit a i ≡ false)
+    → (bit a j && bit (a - 1) j) ≡ (bit a j && not (eqb k j))
 less-one zero a zero e low =
     let odd : a % 2 ≡ 1 = eqb-true (a % 2) 1 (sym (bit-low a) ∙ e) in
     ap (λ (b : Bool). bit a 0 && b) (bit-low (a - 1) ∙ ne-eqb ((a - 1) % 2) 1 (λ z. omega arith))
@@ -38,16 +39,15 @@ less-one (suc k) a (suc j) e low =
 returns : tie.Need-returns
 returns c j = rw (c .if1 .taken, bit-zero j)
 
-sub-result : tie.Need-sub-result
-sub-result c = search needs
-
 returns-2 : tie.Need-returns-2
 returns-2 c j =
     let s : ℕ = c .before .args .s in
-    let w = some-elim 64 (bit s) (not-false (some 64 (bit s)) (sym (zero-set s (omega arith)) ∙ ne-eqb s 0 (c .if1 .left))) in
+    let w =
+    some-elim 64 (bit s) (not-false (some 64 (bit s))
+    (sym (zero-set s (omega arith)) ∙ ne-eqb s 0 (c .if1 .left))) in
     let above : ¬ (w .0 < first 64 (bit s)) = λ l. not-both (w .2) (first-before 64 (bit s) (w .0) l) in
     bit-and s (s - 1) j
     ∙ less-one (first 64 (bit s)) s j (first-passes 64 (bit s) (omega (arith, w .1))) (first-before 64 (bit s))
 
 pub rest-spec : {M : Type 1} → statement M
-rest-spec = tie.close (tie.spec sub-result returns returns-2)
+rest-spec = tie.close (tie.spec (λ c. search needs) returns returns-2)

@@ -7,11 +7,8 @@ use borrow.Author.Needs.{needs}
 use Rattle.sets.proofs.single.Statement.{statement}
 use Rattle.sets.proofs.single.Tie as tie
 
-shl-result : tie.Need-shl-result
-shl-result c = search needs
-
 returns : tie.Need-returns
 returns c j = ap (λ (x : ℕ). bit x j) (one-shifted (c .args .k) (c .pre)) ∙ bit-one (c .args .k) j
 
 pub single-spec : {M : Type 1} → statement M
-single-spec = tie.close (tie.spec shl-result returns)
+single-spec = tie.close (tie.spec (λ c. search needs) returns)

@@ -19,12 +19,18 @@ loop-holds : tie.Need-loop-holds Inv-loop μ-loop
 loop-holds c = (c .before .pre .1, omega arith, λ q l h. absurd (omega arith))
 
 wrong-place-requires : tie.Need-wrong-place-requires Inv-loop μ-loop
-wrong-place-requires c κs = (c .before .before .before .pre .0, omega (arith, c .loop-test .taken, c .before .before .before .pre .2))
+wrong-place-requires c κs =
+    (c .before .before .before .pre .0, omega (arith, c .loop-test .taken, c .before .before .before .pre .2))
 
 returns : tie.Need-returns Inv-loop μ-loop
 returns c =
     let at = c .before .before .before .loop in
-    record { within = at .inv .0; before = at .inv .2; passes = λ h. sym (c .before .wrong-place .ensures) ∙ c .if1 .taken }
+    record {
+      within = at .inv .0;
+      before = at .inv .2;
+      passes = λ h. sym (c .before .wrong-place .ensures)
+          ∙ c .if1 .taken;
+    }
 
 loop-again : tie.Need-loop-again Inv-loop μ-loop
 loop-again c =
@@ -42,4 +48,5 @@ returns-2 c =
 pub first-place-spec : {M : Type 1} → statement M
 first-place-spec =
     tie.close
-    (tie.spec Inv-loop μ-loop loop-holds wrong-place-requires returns (λ c. search needs) (λ c. search needs) loop-again returns-2)
+    (tie.spec Inv-loop μ-loop loop-holds wrong-place-requires returns (λ c. search needs) (λ c. search needs)
+    loop-again returns-2)

@@ -21,7 +21,12 @@ loop-holds c = (omega arith, λ u l h. absurd (omega arith))
 returns : tie.Need-returns Inv-loop μ-loop
 returns c =
     let at = c .before .before .before .loop in
-    record { within = at .inv .0; before = at .inv .1; passes = λ h. sym (c .before .wrong-transition .ensures) ∙ c .if1 .taken }
+    record {
+      within = at .inv .0;
+      before = at .inv .1;
+      passes = λ h. sym (c .before .wrong-transition .ensures)
+          ∙ c .if1 .taken;
+    }
 
 loop-again : tie.Need-loop-again Inv-loop μ-loop
 loop-again c =
@@ -35,4 +40,5 @@ returns-2 c =
 
 pub first-transition-spec : {M : Type 1} → statement M
 first-transition-spec =
-    tie.close (tie.spec Inv-loop μ-loop loop-holds (λ c κs. search needs) returns (λ c. search needs) (λ c. search needs) loop-again returns-2)
+    tie.close (tie.spec Inv-loop μ-loop loop-holds (λ c κs. search needs) returns (λ c. search needs)
+    (λ c. search needs) loop-again returns-2)

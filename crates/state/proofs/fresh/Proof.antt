@@ -7,13 +7,14 @@ use native.Mathlib.Omega.{arith}
 use lib.ListN.{length, getD, replicate}
 use borrow.Author.Needs.{needs}
 use Rattle.meaning.specs.Table.{table}
-use Rattle.meaning.specs.Answer.{Answer, accepted}
+use Rattle.meaning.specs.Answer.{accepted}
 use Rattle.meaning.specs.Defined.{check}
 use Rattle.meaning.specs.Image.{image-bytes}
 use Rattle.meaning.proofs.Image.{image-length}
-use Rattle.meaning.proofs.Sound.{Sound-table, check-sound}
+use Rattle.meaning.proofs.Sound.{Sound-table}
 use Rattle.meaning.proofs.Same.{of-kind, shown-place}
 use Rattle.records.proofs.Columns.{inside}
+use Rattle.rows.proofs.Arcs.{accepted-sound}
 use Rattle.state.specs.Stored.{tokens-put}
 use Rattle.state.proofs.Begun.{begun, begun-none, begun-all, begun-other, begun-place}
 use Rattle.state.proofs.fresh.Statement.{statement}
@@ -28,21 +29,32 @@ abbrev μ-loop : tie.MeasureT-loop
 
 loop-holds : tie.Need-loop-holds Inv-loop μ-loop
 loop-holds c =
-    let given = c .before .before .before .before .before .before .pre in
-    (refl, omega arith, c .before .before .clear .ensures ∙ ap (λ (k : ℕ). replicate k 0) (given .0) ∙ begun-none _, given .1)
+    let given = c .before .before .before .before .before .before .pre in (
+      refl,
+      omega arith,
+      c .before .before .clear .ensures ∙ ap (λ (k : ℕ). replicate k 0) (given .0) ∙ begun-none _,
+      given .1,
+    )
 
 -- The record of a turn is one of the table, and the table is sound.
-inside-table : (c : tie.In-loop Inv-loop μ-loop) → c .before .loop .r < table (c .before .before .before .before .before .before .before .before .args .t .now) .records
+inside-table : (c : tie.In-loop Inv-loop μ-loop)
+    → c .before .loop .r < table
+    (c .before .before .before .before .before .before .before .before .args .t .now) .records
 unfolding table
 inside-table c = omega (arith, c .before .loop .inv .0, c .loop-test .taken)
 
-sound : (c : tie.In-loop Inv-loop μ-loop) → Sound-table (table (c .before .before .before .before .before .before .before .before .args .t .now))
-sound c = check-sound _ (ap (λ (a : Answer). a .number) (c .before .loop .inv .3))
+sound : (c : tie.In-loop Inv-loop μ-loop)
+    → Sound-table (table (c .before .before .before .before .before .before .before .before .args .t .now))
+sound c = accepted-sound _ (c .before .loop .inv .3)
 
 -- Its first byte is its kind.
 kind-is : (c : tie.In-loop Inv-loop μ-loop)
-    → getD (c .before .before .before .before .before .before .before .before .args .t .now) (8 * c .before .loop .r) 0 ≡ table (c .before .before .before .before .before .before .before .before .args .t .now) .kind (c .before .loop .r)
-kind-is c = inside (c .before .before .before .before .before .before .before .before .args .t .now) (c .before .loop .r) (omega (arith, c .before .loop .inv .0, c .loop-test .taken)) .kind
+    → getD (c .before .before .before .before .before .before .before .before .args .t .now) (8 * c .before .loop .r) 0
+    ≡ table (c .before .before .before .before .before .before .before .before .args .t .now) .kind
+    (c .before .loop .r)
+kind-is c =
+    inside (c .before .before .before .before .before .before .before .before .args .t .now) (c .before .loop .r)
+    (omega (arith, c .before .loop .inv .0, c .loop-test .taken)) .kind
 
 put-tokens-requires : tie.Need-put-tokens-requires Inv-loop μ-loop
 put-tokens-requires c κs =
@@ -52,7 +64,11 @@ put-tokens-requires c κs =
     let kind : table t .kind (at .r) ≡ 1 = sym (kind-is turn) ∙ c .before .if1 .taken in
     let within : at .r < length t / 8 = omega (arith, at .inv .0, turn .loop-test .taken) in (
       omega (arith, within),
-      omega (arith, inside t (at .r) within .one, shown-place (of-kind (table t) (at .r) 1 (sound turn .shown (at .r) (inside-table turn)) kind) .0),
+      omega (
+        arith,
+        inside t (at .r) within .one,
+        shown-place (of-kind (table t) (at .r) 1 (sound turn .shown (at .r) (inside-table turn)) kind) .0,
+      ),
       ap length (at .inv .2) ∙ image-length _,
     )
 
@@ -71,7 +87,9 @@ loop-again c =
     (refl, omega arith, step ∙ ap (λ (k : ℕ). image-bytes (begun (table t) k)) (sym (add-one (at .r))), at .inv .3)
 
 same-length : tie.Need-same-length Inv-loop μ-loop
-same-length c = ap length (c .before .loop .inv .2) ∙ image-length _ ∙ sym (c .before .before .before .before .before .before .before .before .pre .0)
+same-length c =
+    ap length (c .before .loop .inv .2) ∙ image-length _
+    ∙ sym (c .before .before .before .before .before .before .before .before .pre .0)
 
 returns : tie.Need-returns Inv-loop μ-loop
 unfolding table
@@ -82,5 +100,7 @@ returns c =
     at .inv .2 ∙ rw end (begun-all _)
 
 pub fresh-spec : {M : Type 1} → statement M
-fresh-spec = tie.close (tie.spec Inv-loop μ-loop (λ c κs. search needs) loop-holds (λ c. search needs) (λ c. search needs) put-tokens-requires (λ c. search needs)
+fresh-spec =
+    tie.close (tie.spec Inv-loop μ-loop (λ c κs. search needs) loop-holds (λ c. search needs) (λ c. search needs)
+    put-tokens-requires (λ c. search needs)
     (λ c. search needs) loop-again same-length returns)

@@ -1,7 +1,7 @@
 -- Past n, and past the transitions below n, the image has nothing to be read.
 use native.Mathlib.Omega.{arith}
 use borrow.Author.Needs.{needs}
-use Rattle.state.proofs.Firsts.{few-transitions, past-transitions}
+use Rattle.rows.proofs.Few.{transitions-le, past}
 use Rattle.state.proofs.load.Statement.{statement}
 use Rattle.state.proofs.load.Tie as tie
 
@@ -16,9 +16,9 @@ load-counters-requires c κs =
     let most = c .transitions .ensures in
     record {
       whole = s .pre .whole;
-      few = omega (arith, most, few-transitions (s .args .n));
+      few = omega (arith, most, transitions-le (s .args .n) .0);
       empty = s .pre .no-counters;
-      none-past = λ t l h. s .pre .blank .transitions t (past-transitions (s .args .n) t (omega (arith, most, l)) h) h;
+      none-past = λ t l h. s .pre .blank .transitions t (past (s .args .n) t (omega (arith, most, l)) h) h;
     }
 
 returns : tie.Need-returns
@@ -27,7 +27,12 @@ returns c =
     let transitions = c .load-counters .ensures in
     record {
       holds =
-          record { tokens-are = places .listed .same; counters-are = transitions .listed .same; orders-are = transitions .orders-are };
+          record {
+            tokens-are = places .listed .same;
+            counters-are = transitions .listed .same;
+            orders-are =
+                transitions .orders-are;
+          };
       small = record { few-tokens = places .listed .small; low-counters = transitions .listed .small };
       places-are = places .places-are;
       transitions-are = transitions .transitions-are;

@@ -12,7 +12,8 @@ use Rattle.state.proofs.load_tokens.Tie as tie
 
 abbrev Inv-loop : tie.InvT-loop
 Inv-loop bs tokens₀ n p₀ tokens p =
-    (p ≤ n) × (length tokens ≡ 128) × Lists p (state (image bs) .tokens) tokens × ((i : ℕ) → p ≤ i → getD tokens i 0 ≡ 0)
+    (p ≤ n) × (length tokens ≡ 128) × Lists p (state (image bs) .tokens) tokens
+    × ((i : ℕ) → p ≤ i → getD tokens i 0 ≡ 0)
 
 abbrev μ-loop : tie.MeasureT-loop
 μ-loop bs tokens₀ n p₀ tokens p = n - p
@@ -23,7 +24,8 @@ loop-holds c =
     (omega arith, empty .0, lists-none _ _, λ i l. empty .1 i)
 
 number-requires : tie.Need-number-requires Inv-loop μ-loop
-number-requires c κs = (c .before .before .before .pre .whole, omega (arith, c .loop-test .taken, c .before .before .before .pre .few))
+number-requires c κs =
+    (c .before .before .before .pre .whole, omega (arith, c .loop-test .taken, c .before .before .before .pre .few))
 
 loop-again : tie.Need-loop-again Inv-loop μ-loop
 unfolding state
@@ -51,5 +53,6 @@ returns c =
 
 pub load-tokens-spec : {M : Type 1} → statement M
 load-tokens-spec =
-    tie.close (tie.spec Inv-loop μ-loop loop-holds number-requires (λ c. search needs) (λ c. search needs) (λ c. search needs) (λ c. search needs)
+    tie.close (tie.spec Inv-loop μ-loop loop-holds number-requires (λ c. search needs) (λ c. search needs)
+    (λ c. search needs) (λ c. search needs)
     loop-again returns)

@@ -8,8 +8,10 @@ use Rattle.state.proofs.number.Tie as tie
 
 returns : tie.Need-returns
 returns c =
-    let start = c .before .before in
-    (c .two .ensures ∙ sym (number-at (start .args .image .now) (start .args .k) (start .pre .1)), omega (arith, c .two .ok))
+    let start = c .before .before in (
+      c .two .ensures ∙ sym (number-at (start .args .image .now) (start .args .k) (start .pre .1)),
+      omega (arith, c .two .ok),
+    )
 
 pub number-spec : {M : Type 1} → statement M
 number-spec = tie.close (tie.spec (λ c. search needs) (λ c κs. search needs) (λ c. search needs) returns)

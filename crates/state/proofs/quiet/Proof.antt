@@ -30,4 +30,6 @@ returns c =
     λ e i l h. at .inv (eqb-true (at .any) 0 e) i l (omega arith)
 
 pub quiet-spec : {M : Type 1} → statement M
-quiet-spec = tie.close (tie.spec Inv-loop μ-loop loop-holds (λ c. search needs) (λ c. search needs) (λ c. search needs) loop-again returns)
+quiet-spec =
+    tie.close (tie.spec Inv-loop μ-loop loop-holds (λ c. search needs) (λ c. search needs) (λ c. search needs)
+    loop-again returns)

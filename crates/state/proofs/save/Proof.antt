@@ -39,7 +39,8 @@ loop-holds c =
     (omega arith, λ t e. e, c .before .before .save-numbers .ensures ∙ but-all s (a .orders) (λ t. refl))
 
 -- The member that is taken is below 64, and in what is left.
-member : (c : tie.After-lowest Inv-loop μ-loop) → (c .lowest .result < 64) × (bit (turn c .before .loop .left) (c .lowest .result) ≡ true)
+member : (c : tie.After-lowest Inv-loop μ-loop)
+    → (c .lowest .result < 64) × (bit (turn c .before .loop .left) (c .lowest .result) ≡ true)
 member c =
     let at = turn c .before .loop in
     lowest-in (at .left) (c .lowest .result) (at .inv .0) (turn c .loop-test .taken) (c .lowest .ensures)
@@ -49,10 +50,12 @@ order-requires c κs = (ap length (turn c .before .loop .inv .2) ∙ image-lengt
 
 -- What the rest is: all that is left but the member.
 taken : (c : tie.After-rest Inv-loop μ-loop) → let lowest = c .before .before .before .before in
-    (j : ℕ) → bit (c .rest .result) j ≡ (bit (turn lowest .before .loop .left) j && not (eqb (lowest .lowest .result) j))
+    (j : ℕ) → bit (c .rest .result) j ≡ (bit (turn lowest .before .loop .left) j
+    && not (eqb (lowest .lowest .result) j))
 taken c j =
     let lowest = c .before .before .before .before in
-    c .rest .ensures j ∙ ap (λ (k : ℕ). bit (turn lowest .before .loop .left) j && not (eqb k j)) (sym (lowest .lowest .ensures))
+    c .rest .ensures j ∙ ap (λ (k : ℕ). bit (turn lowest .before .loop .left) j && not (eqb k j))
+    (sym (lowest .lowest .ensures))
 
 loop-less : tie.Need-loop-less Inv-loop μ-loop
 loop-less c =
@@ -70,7 +73,8 @@ loop-again c =
       λ t e. at .inv .1 t (and-left (bit (at .left) t) _ (sym (taken c t) ∙ e)),
       c .before .before .before .order .ensures
           ∙ ap (λ (bs : List ℕ). set bs (512 + 4 * lowest .lowest .result + 2) 1) (at .inv .2)
-          ∙ but-one s (at .left) (c .rest .result) (lowest .lowest .result) (member lowest .0) (at .inv .1 _ (member lowest .1)) (member lowest .1) (taken c),
+          ∙ but-one s (at .left) (c .rest .result) (lowest .lowest .result) (member lowest .0)
+          (at .inv .1 _ (member lowest .1)) (member lowest .1) (taken c),
     )
 
 same-length : tie.Need-same-length Inv-loop μ-loop
@@ -85,5 +89,6 @@ returns c =
 pub save-spec : {M : Type 1} → statement M
 save-spec =
     tie.close
-    (tie.spec Inv-loop μ-loop (λ c κs. search needs) loop-holds (λ c κs. search needs) order-requires (λ c κs. search needs) loop-less loop-again
+    (tie.spec Inv-loop μ-loop (λ c κs. search needs) loop-holds (λ c κs. search needs) order-requires
+    (λ c κs. search needs) loop-less loop-again
     same-length returns)

@@ -13,10 +13,12 @@ use Rattle.state.proofs.wrong_place.Statement.{statement}
 use Rattle.state.proofs.wrong_place.Tie as tie
 
 -- The two bytes that are read are the last of the place's record.
-third : (s : tie.Start) → image (s .args .image .now) .third (s .args .p) ≡ getD (s .args .image .now) (4 * s .args .p + 2) 0
+third : (s : tie.Start) → image (s .args .image .now) .third (s .args .p)
+    ≡ getD (s .args .image .now) (4 * s .args .p + 2) 0
 third s = third-at (s .args .image .now) (s .args .p) (omega (arith, s .pre .1))
 
-fourth : (s : tie.Start) → image (s .args .image .now) .fourth (s .args .p) ≡ getD (s .args .image .now) (4 * s .args .p + 3) 0
+fourth : (s : tie.Start) → image (s .args .image .now) .fourth (s .args .p)
+    ≡ getD (s .args .image .now) (4 * s .args .p + 3) 0
 fourth s = fourth-at (s .args .image .now) (s .args .p) (omega (arith, s .pre .1))
 
 returns : tie.Need-returns
@@ -52,5 +54,7 @@ returns-4 c =
     )
 
 pub wrong-place-spec : {M : Type 1} → statement M
-wrong-place-spec = tie.close (tie.spec (λ c. search needs) (λ c. search needs) (λ c. search needs) returns (λ c. search needs) (λ c. search needs) (λ c. search needs)
+wrong-place-spec =
+    tie.close (tie.spec (λ c. search needs) (λ c. search needs) (λ c. search needs) returns (λ c. search needs)
+    (λ c. search needs) (λ c. search needs)
     returns-2 (λ c κs. search needs) returns-3 (λ c κs. search needs) returns-4)

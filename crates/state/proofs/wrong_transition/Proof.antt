@@ -15,10 +15,12 @@ use Rattle.state.proofs.wrong_transition.Statement.{statement}
 use Rattle.state.proofs.wrong_transition.Tie as tie
 
 -- The two bytes that are read are the last of the transition's record.
-third : (s : tie.Start) → image (s .args .image .now) .third (128 + s .args .t) ≡ getD (s .args .image .now) (512 + 4 * s .args .t + 2) 0
+third : (s : tie.Start) → image (s .args .image .now) .third (128 + s .args .t)
+    ≡ getD (s .args .image .now) (512 + 4 * s .args .t + 2) 0
 third s = transition-third (s .args .image .now) (s .args .t) (s .pre .1)
 
-fourth : (s : tie.Start) → image (s .args .image .now) .fourth (128 + s .args .t) ≡ getD (s .args .image .now) (512 + 4 * s .args .t + 3) 0
+fourth : (s : tie.Start) → image (s .args .image .now) .fourth (128 + s .args .t)
+    ≡ getD (s .args .image .now) (512 + 4 * s .args .t + 3) 0
 fourth s = transition-fourth (s .args .image .now) (s .args .t) (s .pre .1)
 
 -- No reset order that fits is above 1; and to be above 0 is not to be 0.
@@ -43,7 +45,12 @@ unfolding wrong-transition-by
 returns-3 c =
     let a = c .before .before .before .before .before .before .before .before .args in
     let limit = limit-of (a .times .now) (a .t) in
-    rw (third (c .before .before .before .before .before .before .before .before), lt-ltb (cond (eqb limit 0) 0 1) (getD (a .image .now) (512 + 4 * a .t + 2) 0) (omega (arith, at-most-1 (eqb limit 0), c .if3 .taken)), or-true)
+    rw (
+      third (c .before .before .before .before .before .before .before .before),
+      lt-ltb (cond (eqb limit 0) 0 1) (getD (a .image .now) (512 + 4 * a .t + 2) 0)
+          (omega (arith, at-most-1 (eqb limit 0), c .if3 .taken)),
+      or-true,
+    )
 
 returns-4 : tie.Need-returns-4
 unfolding wrong-transition-by
@@ -56,7 +63,9 @@ returns-4 c =
       eq-eqb _ 0 (c .if4 .taken),
       eq-eqb _ 0 (c .before .before .before .if2 .left),
     )
-    (above-0 (getD (c .before .before .before .before .before .before .before .before .before .args .image .now) (512 + 4 * c .before .before .before .before .before .before .before .before .before .args .t + 2) 0) ∙ sym (or-false _))
+    (above-0 (getD (c .before .before .before .before .before .before .before .before .before .args .image .now)
+    (512 + 4 * c .before .before .before .before .before .before .before .before .before .args .t + 2) 0)
+    ∙ sym (or-false _))
 
 returns-5 : tie.Need-returns-5
 unfolding wrong-transition-by
@@ -72,6 +81,9 @@ returns-5 c =
     )
 
 pub wrong-transition-spec : {M : Type 1} → statement M
-wrong-transition-spec = tie.close (tie.spec (λ c. search needs) (λ c. search needs) (λ c. search needs) (λ c. search needs) (λ c. search needs) (λ c κs. search needs) returns
-    (λ c. search needs) (λ c. search needs) (λ c. search needs) (λ c. search needs) returns-2 (λ c. search needs) (λ c. search needs)
+wrong-transition-spec =
+    tie.close (tie.spec (λ c. search needs) (λ c. search needs) (λ c. search needs) (λ c. search needs)
+    (λ c. search needs) (λ c κs. search needs) returns
+    (λ c. search needs) (λ c. search needs) (λ c. search needs) (λ c. search needs) returns-2 (λ c. search needs)
+    (λ c. search needs)
     (λ c. search needs) (λ c. search needs) returns-3 returns-4 returns-5)

@@ -1,2 +1,0 @@
--- What the functions on rows of sets promise.
-pub mod Given
