@@ -57,7 +57,8 @@ module _ {tb : Table} {n : ℕ} {rows : List ℕ} {w s : List (List ℕ)} {heads
       ∙ first-before 4096 (unsettled-by pairs rows w s n) (64 * i + j) m
 
   -- A transition all of whose pairs stand before it is in no unsettled pair.
-  none-unsettled : (i : ℕ) → i < 64 → 64 * i + 63 < first 4096 (unsettled-by pairs rows w s n) → in-unsettled tb i ≡ false
+  none-unsettled : (i : ℕ) → i < 64 → 64 * i + 63 < first 4096 (unsettled-by pairs rows w s n)
+      → in-unsettled tb i ≡ false
   unfolding in-unsettled
   none-unsettled i h m = rw (none-intro 64 (unsettled tb i) (λ j l. before-first i j h l (omega arith)), and-false)
 

@@ -19,7 +19,8 @@ use Rattle.meaning.specs.Promise.{Checked, Started, Ran, Looked-up}
 use Rattle.meaning.proofs.Answers.{check-refuses, check-accepts, start-refuses, start-accepts, run-refuses}
 use Rattle.meaning.proofs.Run.{words, start-refused-leaves, start-accepted-leaves, run-accepted-leaves, run-full-leaves}
 use Rattle.meaning.proofs.Outcomes.{lookup-whole, lookup-none}
-use Rattle.meaning.proofs.Demands.{check-number, start-number, start-checked, run-number, verdict-not-13, refused-leaves, went, run-accepts, run-bursts, demand-3}
+use Rattle.meaning.proofs.Demands.{check-number, start-number, start-checked, run-number, verdict-not-13}
+use Rattle.meaning.proofs.Demands.{refused-leaves, went, run-accepts, run-bursts, demand-3}
 use Rattle.meaning.proofs.Kept.{fresh-spelt, fresh-fits, never-10}
 use Rattle.meaning.proofs.Finished.{finished, image-reached, run-fits, accepted-count, rest-kept, nothing-to-do}
 

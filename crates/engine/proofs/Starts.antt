@@ -11,7 +11,8 @@ use Rattle.meaning.specs.Answer.{Answer, accepted, refused, Check, decide}
 use Rattle.meaning.specs.Defined.{table-checks, check}
 use Rattle.meaning.specs.Image.{image-bytes, fresh}
 use Rattle.meaning.specs.Calls.{start, start-checks}
-use Rattle.meaning.proofs.Decide.{Clean, Found, search-all, decide-pass, decide-first, decide-append, decide-clean, accepted-clean}
+use Rattle.meaning.proofs.Decide.{Clean, Found, search-all, decide-pass, decide-first, decide-append, decide-clean}
+use Rattle.meaning.proofs.Decide.{accepted-clean}
 use Rattle.meaning.proofs.Tables.{table-refusing}
 
 -- Checks that refuse, refuse whatever checks stand behind them.

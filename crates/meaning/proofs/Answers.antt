@@ -13,14 +13,17 @@ use Rattle.meaning.specs.Table.{table}
 use Rattle.meaning.specs.Answer.{Answer, accepted, refused, Check, decide}
 use Rattle.meaning.specs.Defined.{table-checks, check}
 use Rattle.meaning.specs.Image.{image, wrong, state-checks}
-use Rattle.meaning.specs.Calls.{Start, start, start-checks, words-of, word-checks, run-checks, Trace, trace, Run, ran, run}
+use Rattle.meaning.specs.Calls.{Start, start, start-checks, words-of, word-checks, run-checks, Trace, trace}
+use Rattle.meaning.specs.Calls.{Run, ran, run}
 use Rattle.meaning.specs.Says.{Table-says, Start-says, Run-says, First, stage}
 use Rattle.meaning.proofs.Decide.{All, Refuses, Form, decide-form}
-use Rattle.meaning.proofs.Walk.{Caught, Speaks, refuses, accepts, all-append, speaks-append, caught-append, caught-behind, caught-once, caught-here, skip}
+use Rattle.meaning.proofs.Walk.{Caught, Speaks, refuses, accepts, all-append, speaks-append, caught-append}
+use Rattle.meaning.proofs.Walk.{caught-behind, caught-once, caught-here, skip}
 use Rattle.meaning.proofs.Tables.{table-speaks, table-refusing, table-catches, table-below, place-or-transition}
 use Rattle.meaning.proofs.Sound.{Sound-table, clean-sound}
 use Rattle.meaning.proofs.Run.{trace-number}
-use Rattle.meaning.proofs.Wrong.{wrong-place-decides, wrong-transition-decides, wrong-at-place, wrong-at-transition}
+use Rattle.meaning.proofs.Wrong.{wrong-place-decides, wrong-transition-decides, wrong-at-place}
+use Rattle.meaning.proofs.Wrong.{wrong-at-transition}
 use Rattle.meaning.proofs.Reflect.{Decides, eq-decides, lt-decides, or-decides, not-decides}
 
 -- Start's answer is what its checks decide, whatever the image then is.

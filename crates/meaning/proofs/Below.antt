@@ -9,7 +9,8 @@ use native.Mathlib.Omega.{arith}
 use lib.Dec.{ltb, eqb}
 use borrow.Author.Tests.{ltb-true, ltb-false, eqb-true, eqb-false, eq-eqb, ne-eqb}
 use Rattle.meaning.specs.Below.{some, every, sum, first, members, within}
-use Rattle.meaning.proofs.Bool.{either, not-both, and-left, and-right, and-true, or-false, or-true-left, or-true-right, or-cases}
+use Rattle.meaning.proofs.Bool.{either, not-both, and-left, and-right, and-true, or-false, or-true-left}
+use Rattle.meaning.proofs.Bool.{or-true-right, or-cases}
 
 -- Below n + 1 is below n or n itself.
 pub last : {k n : ℕ} → k < suc n → (k ≡ n) ⊎ (k < n)

@@ -4,7 +4,8 @@ use mathlib.Core.Bool.{Bool, true, false, cond, _||_}
 use mathlib.Core.Path.{_≡_, refl, sym, ap, _∙_}
 use mathlib.Core.Logic.{⊎-elim}
 use Prim.Native.Nat.{ℕ, zero, suc, _+_, _*_, _/_, _%_, _^_, _≤_, _<_}
-use native.Mathlib.Nat.{not-suc-le-zero, lt-of-lt-of-le, add-zero, zero-div, div-one, div-eq-of-lt, div-eq-of-lt-le, div-div-eq-div-mul, div-add-mod', mod-lt, pow-suc, pow-succ'}
+use native.Mathlib.Nat.{not-suc-le-zero, lt-of-lt-of-le, add-zero, zero-div, div-one, div-eq-of-lt, div-eq-of-lt-le}
+use native.Mathlib.Nat.{div-div-eq-div-mul, div-add-mod', mod-lt, pow-suc, pow-succ'}
 use native.Mathlib.Omega.{arith}
 use lib.Dec.{ltb, eqb, eqb·zero-suc, eqb·suc-zero, eqb·suc-suc}
 use lib.Pow.{pow-mono, pow-pos}

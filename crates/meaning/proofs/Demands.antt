@@ -19,14 +19,16 @@ use Rattle.meaning.specs.Says.{Table-says, Start-says, Run-says}
 use Rattle.meaning.specs.Orders.{Meets, Safe}
 use Rattle.meaning.specs.Source.{source-falling, source-run}
 use Rattle.meaning.specs.Steps.{Steps, Bursts}
-use Rattle.meaning.proofs.Answers.{check-refuses, check-accepts, check-form, start-refuses, start-accepts, start-form, run-stops, run-goes, run-form}
+use Rattle.meaning.proofs.Answers.{check-refuses, check-accepts, check-form, start-refuses, start-accepts}
+use Rattle.meaning.proofs.Answers.{start-form, run-stops, run-goes, run-form}
 use Rattle.meaning.proofs.Accepted.{accepted-well}
 use Rattle.meaning.proofs.Fired.{fired-meets, fired-only}
 use Rattle.meaning.proofs.Fits.{Fits}
 use Rattle.meaning.proofs.Demand3.{start-pays, residual-whole, any-order}
 use Rattle.meaning.proofs.Source.{stopping-changes-nothing}
 use Rattle.meaning.proofs.Sequence.{one-end}
-use Rattle.meaning.proofs.Run.{verdict, words, run-goes-on, run-refused-leaves, run-accepted-leaves, run-full-leaves, trace-finishes, trace-bursts, trace-number}
+use Rattle.meaning.proofs.Run.{verdict, words, run-goes-on, run-refused-leaves, run-accepted-leaves}
+use Rattle.meaning.proofs.Run.{run-full-leaves, trace-finishes, trace-bursts, trace-number}
 
 -- DEMAND 1: every input has its answer, and a refusal leaves what it must.
 

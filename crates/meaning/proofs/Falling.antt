@@ -6,7 +6,8 @@ use mathlib.Core.Path.{_≡_, refl, sym, ap, _∙_, subst}
 use Prim.Native.Nat.{ℕ, suc, _<_}
 use native.Mathlib.Omega.{arith}
 use lib.Dec.{ltb, leb, eqb}
-use borrow.Author.Tests.{ltb-true, ltb-false, lt-ltb, le-ltb, leb-true, leb-false, le-leb, lt-leb, eqb-true, eq-eqb, ne-eqb, not-true, not-false}
+use borrow.Author.Tests.{ltb-true, ltb-false, lt-ltb, le-ltb, leb-true, leb-false, le-leb, lt-leb, eqb-true, eq-eqb}
+use borrow.Author.Tests.{ne-eqb, not-true, not-false}
 use Rattle.meaning.specs.Below.{some}
 use Rattle.meaning.specs.Table.{Table, is, post, timing, a-of, b-of}
 use Rattle.meaning.specs.Image.{State}
@@ -14,7 +15,8 @@ use Rattle.meaning.specs.Cycle.{stops, enabled, active, risen, counted}
 use Rattle.meaning.specs.Rules.{Enabled, Active, Between, From, Is-timed, Counter}
 use Rattle.meaning.proofs.Bool.{either, not-both, and-left, and-right}
 use Rattle.meaning.proofs.Below.{none-elim, none-intro}
-use Rattle.meaning.proofs.Reflect.{Decides, recast, refuted, not-true-false, eq-decides, lt-decides, and-decides, some-decides}
+use Rattle.meaning.proofs.Reflect.{Decides, recast, refuted, not-true-false, eq-decides, lt-decides}
+use Rattle.meaning.proofs.Reflect.{and-decides, some-decides}
 use Rattle.meaning.proofs.Shows.{up-to-3}
 use Rattle.meaning.proofs.Same.{of-kind, shown-arc}
 use Rattle.meaning.proofs.Sound.{Sound-table, timed-is, Sort-of, sort-of}

@@ -11,11 +11,13 @@ use lib.Dec.{ltb, leb, eqb}
 use borrow.Author.Tests.{ltb-true, ltb-false, le-ltb, lt-ltb, leb-true, eqb-true}
 use Rattle.meaning.specs.Below.{within}
 use Rattle.meaning.specs.Table.{Table, total, place, timing, a-of, b-of, post}
-use Rattle.meaning.specs.Image.{Image, image, State, state, image-bytes, most, most-order, wrong, wrong-place, wrong-transition}
+use Rattle.meaning.specs.Image.{Image, image, State, state, image-bytes, most, most-order, wrong, wrong-place}
+use Rattle.meaning.specs.Image.{wrong-transition}
 use Rattle.meaning.specs.Cycle.{enabled, risen, counted, falling, withdrawn, added, marked, reset, rising, cycle}
 use Rattle.meaning.proofs.Bool.{either, not-both, or-false-left, or-false-right, and-left, and-right}
 use Rattle.meaning.proofs.Below.{sum-zero}
-use Rattle.meaning.proofs.Image.{place-number, place-third, place-fourth, transition-number, transition-third, transition-fourth}
+use Rattle.meaning.proofs.Image.{place-number, place-third, place-fourth, transition-number, transition-third}
+use Rattle.meaning.proofs.Image.{transition-fourth}
 use Rattle.meaning.proofs.Enabled.{arc-is}
 use Rattle.meaning.proofs.Well.{Well}
 

@@ -21,7 +21,8 @@ use Rattle.meaning.proofs.Same.{of-kind}
 use Rattle.meaning.proofs.Rows.{place-decides}
 use Rattle.meaning.proofs.Tables.{place-or-transition}
 use Rattle.meaning.proofs.Sound.{Sound-table, check-sound, place-column, declared-none}
-use Rattle.meaning.proofs.Wrong.{place-fits-is, transition-fits-is, wrong-place-decides, wrong-transition-decides, wrong-at-place, wrong-at-transition}
+use Rattle.meaning.proofs.Wrong.{place-fits-is, transition-fits-is, wrong-place-decides}
+use Rattle.meaning.proofs.Wrong.{wrong-transition-decides, wrong-at-place, wrong-at-transition}
 use Rattle.meaning.proofs.Accepted.{accepted-well}
 use Rattle.meaning.proofs.Image.{image-length, tokens-back, counter-back, order-back}
 use Rattle.meaning.proofs.Spelt.{state-spelt, fresh-is}

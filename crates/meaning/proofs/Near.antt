@@ -10,7 +10,8 @@ use Rattle.meaning.specs.Below.{members, within}
 use Rattle.meaning.specs.Table.{Table, basic, test, transition, timing}
 use Rattle.meaning.specs.Priority.{above}
 use Rattle.meaning.specs.Image.{State}
-use Rattle.meaning.specs.Cycle.{enabled, risen, counted, falling, firable, withdrawn, residual, rule, rounds, fired, marked, starved, reset, rising}
+use Rattle.meaning.specs.Cycle.{enabled, risen, counted, falling, firable, withdrawn, residual, rule, rounds}
+use Rattle.meaning.specs.Cycle.{fired, marked, starved, reset, rising}
 use Rattle.meaning.proofs.Bool.{and-left, or-cases}
 use Rattle.meaning.proofs.Below.{some-same, members-same}
 use Rattle.meaning.proofs.Well.{Well}

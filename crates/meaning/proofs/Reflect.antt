@@ -7,7 +7,8 @@ use Prim.Native.Nat.{ℕ, _≤_, _<_}
 use lib.Dec.{ltb, leb, eqb}
 use borrow.Author.Tests.{lt-ltb, ltb-true, eqb-true, eq-eqb, not-true, leb-true, le-leb}
 use Rattle.meaning.specs.Below.{some}
-use Rattle.meaning.proofs.Bool.{either, not-both, and-left, and-right, and-true, or-true-left, or-true-right, or-cases}
+use Rattle.meaning.proofs.Bool.{either, not-both, and-left, and-right, and-true, or-true-left, or-true-right}
+use Rattle.meaning.proofs.Bool.{or-cases}
 use Rattle.meaning.proofs.Below.{some-intro, some-elim}
 
 -- The test b decides A.

@@ -14,12 +14,15 @@ use Rattle.meaning.specs.Bytes.{bit}
 use Rattle.meaning.specs.Table.{Table, total, is, arc, a-of, b-of}
 use Rattle.meaning.specs.Priority.{above}
 use Rattle.meaning.specs.Image.{State}
-use Rattle.meaning.specs.Cycle.{enabled, as-wanted, in-time, firable, withdrawn, added, residual, rule, marked, executed, starved, reset}
+use Rattle.meaning.specs.Cycle.{enabled, as-wanted, in-time, firable, withdrawn, added, residual, rule, marked}
+use Rattle.meaning.specs.Cycle.{executed, starved, reset}
 use Rattle.meaning.specs.Says.{Arc, Wanted}
-use Rattle.meaning.specs.Rules.{Enabled, True-in, In-time, Firable, Arc-of, Weighs, Withdraws, Adds, In, In-above, Residual, Fires, Marked, Starved, Reset, Executed}
+use Rattle.meaning.specs.Rules.{Enabled, True-in, In-time, Firable, Arc-of, Weighs, Withdraws, Adds, In}
+use Rattle.meaning.specs.Rules.{In-above, Residual, Fires, Marked, Starved, Reset, Executed}
 use Rattle.meaning.proofs.Bool.{either, not-both, or-true-left}
 use Rattle.meaning.proofs.Below.{every-elim, every-intro}
-use Rattle.meaning.proofs.Reflect.{Decides, recast, decided, refuted, eq-decides, lt-decides, le-decides, and-decides, or-decides, some-decides}
+use Rattle.meaning.proofs.Reflect.{Decides, recast, decided, refuted, eq-decides, lt-decides, le-decides}
+use Rattle.meaning.proofs.Reflect.{and-decides, or-decides, some-decides}
 use Rattle.meaning.proofs.Bits.{condition-is}
 use Rattle.meaning.proofs.Shows.{up-to-1}
 use Rattle.meaning.proofs.Same.{of-kind, shown-condition}

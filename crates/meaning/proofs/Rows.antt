@@ -6,10 +6,13 @@ use mathlib.Core.Logic.{_≢_, _⊎_, inl, inr, ⊎-elim}
 use Prim.Native.Nat.{ℕ, _≤_, _<_}
 use native.Mathlib.Omega.{arith}
 use Rattle.meaning.specs.Table.{Table, place, transition, is}
-use Rattle.meaning.specs.Defined.{names-place, names-transition, names-second, unknown, empty, arc-at-place, arc-at-transition, some-two, conflict, complementary, inhibited, settled, unsettled}
+use Rattle.meaning.specs.Defined.{names-place, names-transition, names-second, unknown, empty, arc-at-place}
+use Rattle.meaning.specs.Defined.{arc-at-transition, some-two, conflict, complementary, inhibited, settled}
+use Rattle.meaning.specs.Defined.{unsettled}
 use Rattle.meaning.specs.Says.{Place, Transition, Arc, Wanted, Names-unknown, Above, Conflict, Settled}
 use Rattle.meaning.proofs.Closure.{closed}
-use Rattle.meaning.proofs.Reflect.{Decides, recast, eq-decides, lt-decides, and-decides, or-decides, not-decides, some-decides}
+use Rattle.meaning.proofs.Reflect.{Decides, recast, eq-decides, lt-decides, and-decides, or-decides}
+use Rattle.meaning.proofs.Reflect.{not-decides, some-decides}
 use Rattle.meaning.proofs.Shows.{Shows, up-to-1}
 use Rattle.meaning.proofs.Same.{of-kind, shown-condition}
 

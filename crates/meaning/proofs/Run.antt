@@ -15,7 +15,8 @@ use Rattle.meaning.specs.Table.{Table, table, ceiling}
 use Rattle.meaning.specs.Answer.{Answer, accepted, decide}
 use Rattle.meaning.specs.Image.{fresh, image-bytes}
 use Rattle.meaning.specs.Cycle.{cycle, overfull, record-of}
-use Rattle.meaning.specs.Calls.{Start, start, start-checks, Run, run, run-checks, words-of, Trace, trace, stopped, ran}
+use Rattle.meaning.specs.Calls.{Start, start, start-checks, Run, run, run-checks, words-of, Trace, trace}
+use Rattle.meaning.specs.Calls.{stopped, ran}
 use Rattle.meaning.specs.Steps.{Stays, Bursts, Steps}
 use Rattle.meaning.proofs.Bool.{either}
 use Rattle.meaning.proofs.Below.{first-none, first-is, first-passes, first-before}

@@ -12,7 +12,8 @@ use Rattle.meaning.specs.Below.{sum}
 use Rattle.meaning.specs.Table.{Table, table, is, total, declared, transition, timing, a-of, b-of}
 use Rattle.meaning.specs.Priority.{above}
 use Rattle.meaning.specs.Answer.{accepted}
-use Rattle.meaning.specs.Defined.{same, twice, unknown, circle, conflict, settled, unsettled, in-unsettled, table-checks, check}
+use Rattle.meaning.specs.Defined.{same, twice, unknown, circle, conflict, settled, unsettled, in-unsettled}
+use Rattle.meaning.specs.Defined.{table-checks, check}
 use Rattle.meaning.specs.Says.{Same, Transition, Timed}
 use Rattle.meaning.proofs.Bool.{not-both, and-left, and-right, and-true}
 use Rattle.meaning.proofs.Below.{last, sum-zero, some-intro, none-elim}
@@ -74,7 +75,8 @@ pub record Sound-table (tb : Table) : Type 0 where
   pub settles : (i j : ℕ) → i < 64 → j < 64 → unsettled tb i j ≡ false
 
 -- Where i is in no unsettled pair, i and j are none.
-no-pair : (tb : Table) (i j : ℕ) → ((r : ℕ) → r < tb .records → unknown tb r ≡ false) → in-unsettled tb i ≡ false → j < 64
+no-pair : (tb : Table) (i j : ℕ) → ((r : ℕ) → r < tb .records → unknown tb r ≡ false) → in-unsettled tb i ≡ false
+    → j < 64
     → unsettled tb i j ≡ false
 unfolding in-unsettled unsettled
 no-pair tb i j known e m =

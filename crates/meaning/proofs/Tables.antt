@@ -12,7 +12,8 @@ use borrow.Author.Tests.{lt-ltb, le-ltb, ltb-true, ltb-false}
 use Rattle.meaning.specs.Below.{some, first}
 use Rattle.meaning.specs.Table.{Table, table, place, transition}
 use Rattle.meaning.specs.Answer.{refused, Check, check-of}
-use Rattle.meaning.specs.Defined.{bad-length, fault, unknown, empty, isolated, circle, arc-at-place, arc-at-transition, unsettled, in-unsettled, table-checks}
+use Rattle.meaning.specs.Defined.{bad-length, fault, unknown, empty, isolated, circle, arc-at-place}
+use Rattle.meaning.specs.Defined.{arc-at-transition, unsettled, in-unsettled, table-checks}
 use Rattle.meaning.specs.Says.{Place, Transition, Arc, Names-unknown, Above, Conflict, Settled, Table-says, stage}
 use Rattle.meaning.proofs.Bool.{either, not-both, and-right, and-true}
 use Rattle.meaning.proofs.Closure.{closed}
@@ -20,10 +21,13 @@ use Rattle.meaning.proofs.Below.{some-elim, some-intro, first-le, first
 use Rattle.meaning.proofs.Reflect.{Decides, eq-decides, lt-decides, or-decides, not-decides, refutes, decided}
 use Rattle.meaning.proofs.Shows.{Shows}
 use Rattle.meaning.proofs.Same.{of-kind, shown-place, shown-transition, shown-priority}
-use Rattle.meaning.proofs.Faults.{faults, faultless, fault-range, kind-caught, field-caught, again-caught, fault-said}
-use Rattle.meaning.proofs.Rows.{transition-decides, unknown-decides, no-place-decides, no-transition-decides, place-isolated-decides, transition-isolated-decides, unsettled-decides}
+use Rattle.meaning.proofs.Faults.{faults, faultless, fault-range, kind-caught, field-caught, again-caught}
+use Rattle.meaning.proofs.Faults.{fault-said}
+use Rattle.meaning.proofs.Rows.{transition-decides, unknown-decides, no-place-decides, no-transition-decides}
+use Rattle.meaning.proofs.Rows.{place-isolated-decides, transition-isolated-decides, unsettled-decides}
 use Rattle.meaning.proofs.Decide.{All, Clean, Refuses}
-use Rattle.meaning.proofs.Walk.{Caught, Speaks, Refuses-below, all-refuse, caught-here, caught-once, skip, not-lower}
+use Rattle.meaning.proofs.Walk.{Caught, Speaks, Refuses-below, all-refuse, caught-here, caught-once, skip}
+use Rattle.meaning.proofs.Walk.{not-lower}
 
 -- THE CHECKS OF A TABLE, BY NAME
 

@@ -12,7 +12,8 @@ use borrow.Author.Tests.{ltb-true, ltb-false}
 use Rattle.meaning.specs.Answer.{Answer, accepted, refused, Check, check-of, decide}
 use Rattle.meaning.specs.Says.{stage, Earlier, First}
 use Rattle.meaning.proofs.Bool.{not-both}
-use Rattle.meaning.proofs.Decide.{All, Clean, AllClean, Found, Refuses, search-all, decide-pass, decide-first, decide-clean}
+use Rattle.meaning.proofs.Decide.{All, Clean, AllClean, Found, Refuses, search-all, decide-pass, decide-first}
+use Rattle.meaning.proofs.Decide.{decide-clean}
 
 -- THE ORDER OF ANSWERS
 

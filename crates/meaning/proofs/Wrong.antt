@@ -11,7 +11,8 @@ use Rattle.meaning.specs.Table.{Table, place, timing, a-of, b-of}
 use Rattle.meaning.specs.Image.{Image, wrong-place, most, most-order, wrong-transition, wrong}
 use Rattle.meaning.specs.Says.{Place, Timed, Place-fits, Transition-fits}
 use Rattle.meaning.proofs.Bool.{or-false, or-false-left, or-false-right}
-use Rattle.meaning.proofs.Reflect.{Decides, fails, decided, refuted, refutes, not-decides, and-decides, eq-decides}
+use Rattle.meaning.proofs.Reflect.{Decides, fails, decided, refuted, refutes, not-decides, and-decides}
+use Rattle.meaning.proofs.Reflect.{eq-decides}
 use Rattle.meaning.proofs.Rows.{place-decides}
 use Rattle.meaning.proofs.Sound.{Sound-table, timed-is, Sort-of, sort-of}
 

@@ -6,7 +6,8 @@ use Prim.Native.Nat.{ℕ, zero, suc, _+_, _-_}
 use lib.Dec.{ltb, leb, eqb}
 use Rattle.meaning.specs.Below.{some, every, members, within}
 use Rattle.meaning.specs.Bytes.{bytes, bit, bits}
-use Rattle.meaning.specs.Table.{Table, total, is, basic, test, inhibitor, post, transition, timing, a-of, b-of, ceiling}
+use Rattle.meaning.specs.Table.{Table, total, is, basic, test, inhibitor, post}
+use Rattle.meaning.specs.Table.{transition, timing, a-of, b-of, ceiling}
 use Rattle.meaning.specs.Priority.{above}
 use Rattle.meaning.specs.Image.{State, state, image}
 

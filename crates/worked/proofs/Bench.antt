@@ -7,11 +7,19 @@ use Rattle.meaning.specs.Bytes.{number, bytes, bit, bits, cut}
 use Rattle.meaning.specs.Table.{kinds, place, transition, total, ceiling, table}
 use Rattle.meaning.specs.Answer.{decide}
 use Rattle.meaning.specs.Priority.{through, above}
-use Rattle.meaning.specs.Defined.{bad-length, bad-kind, interval, bad-field, same, twice, fault, faulty, names-place, names-transition, names-second, unknown, empty, arc-at-place, arc-at-transition, isolated, circle, some-two, conflict, complementary, inhibited, settled, unsettled, in-unsettled, table-checks}
-use Rattle.meaning.specs.Image.{state, join, image, image-bytes, fresh, wrong-place, most, most-order, wrong-transition, wrong, state-checks}
-use Rattle.meaning.specs.Cycle.{stops, enabled, active, risen, counted, falling, as-wanted, in-time, firable, withdrawn, added, residual, rule, rounds, fired, marked, executed, starved, reset, rising, record-of, cycle, overfull}
+use Rattle.meaning.specs.Defined.{bad-length, bad-kind, interval, bad-field, same, twice, fault, faulty, names-place}
+use Rattle.meaning.specs.Defined.{names-transition, names-second, unknown, empty, arc-at-place, arc-at-transition}
+use Rattle.meaning.specs.Defined.{isolated, circle, some-two, conflict, complementary, inhibited, settled, unsettled}
+use Rattle.meaning.specs.Defined.{in-unsettled, table-checks}
+use Rattle.meaning.specs.Image.{state, join, image, image-bytes, fresh, wrong-place, most, most-order}
+use Rattle.meaning.specs.Image.{wrong-transition, wrong, state-checks}
+use Rattle.meaning.specs.Cycle.{stops, enabled, active, risen, counted, falling, as-wanted, in-time, firable}
+use Rattle.meaning.specs.Cycle.{withdrawn, added, residual, rule, rounds, fired, marked, executed, starved, reset}
+use Rattle.meaning.specs.Cycle.{rising, record-of, cycle, overfull}
 use Rattle.meaning.specs.Calls.{start-checks, start, words-of, word-checks, run-checks, trace, run}
-use Rattle.meaning.specs.Nets.{N, N-unsettled, net7, net8, net6, alike, word-bytes, sets-at, counts-of, passes, net5, net9, net10, nets-1-to-5, nets-6-to-10, all-pass, net11, net12, put-back, two-full, beside, Case, nets}
+use Rattle.meaning.specs.Nets.{N, N-unsettled, net7, net8, net6, alike, word-bytes, sets-at, counts-of, passes, net5}
+use Rattle.meaning.specs.Nets.{net9, net10, nets-1-to-5, nets-6-to-10, all-pass, net11, net12, put-back, two-full}
+use Rattle.meaning.specs.Nets.{beside, Case, nets}
 
 -- The cases of net N as printed and nets 1 to 5, and of nets 6 to 10. Each is a computation of its own, since one
 -- alone has steps enough.

@@ -11,7 +11,10 @@ use Rattle.meaning.specs.Bytes.{bytes, cut}
 use Rattle.meaning.specs.Table.{kinds, place, transition, table}
 use Rattle.meaning.specs.Answer.{Answer, refused, decide}
 use Rattle.meaning.specs.Priority.{through, above}
-use Rattle.meaning.specs.Defined.{bad-length, bad-kind, interval, bad-field, same, twice, fault, faulty, names-place, names-transition, names-second, unknown, empty, arc-at-place, arc-at-transition, isolated, circle, some-two, conflict, complementary, inhibited, settled, unsettled, in-unsettled, table-checks, check}
+use Rattle.meaning.specs.Defined.{bad-length, bad-kind, interval, bad-field, same, twice, fault, faulty, names-place}
+use Rattle.meaning.specs.Defined.{names-transition, names-second, unknown, empty, arc-at-place, arc-at-transition}
+use Rattle.meaning.specs.Defined.{isolated, circle, some-two, conflict, complementary, inhibited, settled, unsettled}
+use Rattle.meaning.specs.Defined.{in-unsettled, table-checks, check}
 use Rattle.meaning.specs.Calls.{lookup-from}
 use Rattle.meaning.specs.Promise.{Checked, Started, Looked-up}
 use Rattle.meaning.specs.Nets as net

@@ -10,9 +10,15 @@ use Rattle.meaning.specs.Bytes.{number, bytes, bit, bits, cut}
 use Rattle.meaning.specs.Table.{kinds, place, transition, total, ceiling, table}
 use Rattle.meaning.specs.Answer.{Answer, decide}
 use Rattle.meaning.specs.Priority.{through, above}
-use Rattle.meaning.specs.Defined.{bad-length, bad-kind, interval, bad-field, same, twice, fault, faulty, names-place, names-transition, names-second, unknown, empty, arc-at-place, arc-at-transition, isolated, circle, some-two, conflict, complementary, inhibited, settled, unsettled, in-unsettled, table-checks}
-use Rattle.meaning.specs.Image.{state, join, image, image-bytes, fresh, wrong-place, most, most-order, wrong-transition, wrong, state-checks}
-use Rattle.meaning.specs.Cycle.{stops, enabled, active, risen, counted, falling, as-wanted, in-time, firable, withdrawn, added, residual, rule, rounds, fired, marked, executed, starved, reset, rising, record-of, cycle, overfull}
+use Rattle.meaning.specs.Defined.{bad-length, bad-kind, interval, bad-field, same, twice, fault, faulty, names-place}
+use Rattle.meaning.specs.Defined.{names-transition, names-second, unknown, empty, arc-at-place, arc-at-transition}
+use Rattle.meaning.specs.Defined.{isolated, circle, some-two, conflict, complementary, inhibited, settled, unsettled}
+use Rattle.meaning.specs.Defined.{in-unsettled, table-checks}
+use Rattle.meaning.specs.Image.{state, join, image, image-bytes, fresh, wrong-place, most, most-order}
+use Rattle.meaning.specs.Image.{wrong-transition, wrong, state-checks}
+use Rattle.meaning.specs.Cycle.{stops, enabled, active, risen, counted, falling, as-wanted, in-time, firable}
+use Rattle.meaning.specs.Cycle.{withdrawn, added, residual, rule, rounds, fired, marked, executed, starved, reset}
+use Rattle.meaning.specs.Cycle.{rising, record-of, cycle, overfull}
 use Rattle.meaning.specs.Calls.{words-of, word-checks, run-checks, trace, run}
 use Rattle.meaning.specs.Promise.{Ran}
 use Rattle.meaning.specs.Nets.{N-unsettled, N, net6, net7, net9, put-back, two-full}
