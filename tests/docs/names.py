@@ -1,8 +1,9 @@
 """names.py REPOSITORY: looks up every name that docs/ and README.md write between backticks, and measures their lines.
 
-A name is a definition, theorem, field or constructor of a file of antt, a function, type, field, constant, parameter or local
-of a file of Rattle, an edit that must fail, a crate, a file or a folder, or a word of one of the languages. `Module.name` has
-to stand in a file Module.antt, `crate::name` in the sources of that crate, `crate/edit` in its folder must-fail.
+A name is a definition, theorem, field or constructor of a file of antt, a function, type, field, constant, parameter or
+local of a file of Rattle, an edit that must fail, a crate, a file or a folder, a verb of mk, or a word of one of the
+languages. `Module.name` has to stand in a file Module.antt, `crate::name` in the sources of that crate, `crate/edit` in
+its folder must-fail.
 """
 import glob
 import os
@@ -13,7 +14,7 @@ os.chdir(sys.argv[1])
 NAME = r"[^\W\d][\w′″·-]*"
 WORDS = set(
     """rt antt u8 u16 u32 u64 usize i32 bool mut requires ensures where now unfolding omega search needs ptr
-    net.bin words.bin cpu qemu64 O3 c11 must-fail target""".split()
+    net.bin words.bin raw name help cpu qemu64 O3 c11 must-fail target""".split()
 )
 
 
@@ -38,6 +39,7 @@ for file in glob.glob("crates/*/src/**/*.rt", recursive=True):
     names.add(os.path.basename(file)[:-3])
     rattle.setdefault(crate, set()).update(names)
     known |= names
+known |= {os.path.basename(verb)[:-3] for verb in glob.glob("tools/*.py")}
 known |= set(antt) | set(rattle)
 known |= {os.path.basename(edit)[:-5] for edit in glob.glob("crates/*/must-fail/*.edit")}
 known |= set(re.findall(r"\bmk_\w+", read("include/moezelkring.h")))
