@@ -15,6 +15,7 @@ use Rattle.meaning.specs.Steps.{Bursts, Steps, Reaches}
 use Rattle.meaning.specs.Orders.{Safe}
 use Rattle.meaning.specs.Rules.{Word-spelt, State-spelt, Fresh, Turn}
 use Rattle.meaning.specs.Finished.{Finished, fired-in, actions-in, functions-in}
+use Rattle.meaning.specs.History.{tokens-in, History}
 use Rattle.meaning.specs.Promise.{Checked, Started, Ran, Looked-up}
 use Rattle.meaning.proofs.Answers.{check-refuses, check-accepts, start-refuses, start-accepts, run-refuses}
 use Rattle.meaning.proofs.Run.{words, start-refused-leaves, start-accepted-leaves, run-accepted-leaves, run-full-leaves}
@@ -22,6 +23,7 @@ use Rattle.meaning.proofs.Outcomes.{lookup-whole, lookup-none}
 use Rattle.meaning.proofs.Demands.{check-number, start-number, start-checked, run-number, verdict-not-13}
 use Rattle.meaning.proofs.Demands.{refused-leaves, went, run-accepts, run-bursts, demand-3}
 use Rattle.meaning.proofs.Kept.{fresh-spelt, fresh-fits, never-10}
+use Rattle.meaning.proofs.History.{run-history}
 use Rattle.meaning.proofs.Finished.{finished, image-reached, run-fits, accepted-count, rest-kept, nothing-to-do}
 
 -- The number of an answer.
@@ -156,6 +158,11 @@ module _ (bs img ws report : List ℕ) (a : Answer) (img′ report′ : List ℕ
 
   pub report-beyond-is-kept : drop (24 * a .cycles) report′ ≡ drop (24 * a .cycles) report
   report-beyond-is-kept = rw (promised .answer-is, promised .report-is) (rest-kept bs img ws report)
+
+  -- The history of the marking: at every place the end marking with all that the fired sets of the finished cycles
+  -- took is the start marking with all that they put.
+  pub marking-history : History (table bs) report′ (a .cycles) (tokens-in img) (tokens-in img′)
+  marking-history = rw (promised .answer-is, promised .image-is, promised .report-is) (run-history bs img ws report)
 
   -- After a run that ends with 0 or 13 the image fits again, so another run never answers 10 to it.
   module _ (end : (a .number ≡ 0) ⊎ (a .number ≡ 13)) where

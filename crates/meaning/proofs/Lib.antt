@@ -41,3 +41,4 @@ pub mod Turns
 pub mod Demands
 pub mod Kept
 pub mod Finished
+pub mod History

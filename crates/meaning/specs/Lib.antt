@@ -13,6 +13,7 @@ pub mod Rules
 pub mod Orders
 pub mod Steps
 pub mod Finished
+pub mod History
 pub mod Promise
 pub mod Source
 pub mod Nets

@@ -30,11 +30,11 @@ pub data One-by-one (tb : Table) : (ℕ → ℕ) → List ℕ → (ℕ → ℕ) 
       → One-by-one tb (λ p. m p - takes tb t p + puts tb t p) ts m′ → One-by-one tb m (t ∷ ts) m′
 
 -- One list is another in some order.
-pub data Order : List ℕ → List ℕ → Type 0 where
+pub data Order {A : Type 0} : List A → List A → Type 0 where
   none : Order [] []
-  keep : {x : ℕ} {xs ys : List ℕ} → Order xs ys → Order (x ∷ xs) (x ∷ ys)
-  swap : {x y : ℕ} {xs : List ℕ} → Order (x ∷ y ∷ xs) (y ∷ x ∷ xs)
-  again : {xs ys zs : List ℕ} → Order xs ys → Order ys zs → Order xs zs
+  keep : {x : A} {xs ys : List A} → Order xs ys → Order (x ∷ xs) (x ∷ ys)
+  swap : {x y : A} {xs : List A} → Order (x ∷ y ∷ xs) (y ∷ x ∷ xs)
+  again : {xs ys zs : List A} → Order xs ys → Order ys zs → Order xs zs
 
 -- Demand 3 for one cycle, of the set that fires by definition 6 and the marking M at the start of the cycle.
 pub record Safe (tb : Table) (img : List ℕ) (word : ℕ) : Type 0 where
