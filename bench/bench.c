@@ -3,35 +3,18 @@
    byte, else the bench ends with exit 1.
 
    bench COUNTS: COUNTS is the file into which the counting plugin writes. */
-#define _XOPEN_SOURCE 700
-#include <inttypes.h>
 #include <stdio.h>
-#include <stdlib.h>
 #include <string.h>
-#include <ucontext.h>
-#include <unistd.h>
 
 #include "baseline.h"
+#include "bench_day.h"
+#include "measure.h"
 #include "moezelkring.h"
-#include "tables.h"
 
-enum { IMAGE_BYTES = 768, CYCLE_BYTES = 24, POINTS = 3, STACK_BYTES = 8 << 20 };
+enum { POINTS = 3 };
 
-struct outcome { size_t number, at, cycles; };
-
-/* One call: what is lent to it and what it answered. */
-struct call {
-    const struct bench_table *table;
-    const uint8_t *words;
-    size_t words_len;
-    uint8_t image[IMAGE_BYTES], report[CYCLE_BYTES * BENCH_WORDS];
-    struct outcome outcome;
-};
-
-typedef void engine_call(struct call *);
-
-static FILE *counts;
-static uint64_t empty_part;
+/* The instructions of each call on one table: run without words, with one and with all, and the others. */
+struct figures { uint64_t run[POINTS], check, count, change, add; };
 
 static void run_engine(struct call *call)
 {
@@ -57,30 +40,6 @@ static void check_baseline(struct call *call)
 {
     base_answer answer = base_check(call->table->bytes, call->table->length);
     call->outcome = (struct outcome){ answer.number, answer.at, answer.cycles };
-}
-
-static void nothing(struct call *call)
-{
-    (void)call;
-}
-
-static _Noreturn void fail(const char *what)
-{
-    fprintf(stderr, "bench: %s\n", what);
-    exit(1);
-}
-
-/* The instructions of one call, with those of an empty marked part taken off. */
-static uint64_t instructions_of(engine_call *volatile part, struct call *call)
-{
-    char line[32];
-    getppid();
-    part(call);
-    getppid();
-    clearerr(counts);
-    if (fgets(line, sizeof line, counts) == NULL)
-        fail("no count: run this under the emulator with its plugin");
-    return strtoull(line, NULL, 10) - empty_part;
 }
 
 /* A call with a fresh image and a report full of old bytes. */
@@ -109,46 +68,6 @@ static void compare(const struct call *one, const struct call *other, size_t cyc
         fail("the engine and the baseline differ");
 }
 
-/* ---- The stack: a call on a painted one, then a look how deep the paint is gone. ----
-   What a call set aside below its deepest written byte, and never wrote, is not seen. */
-
-static uint64_t stack[STACK_BYTES / 8];
-static ucontext_t here, there;
-static engine_call *part_on_stack;
-static struct call *call_on_stack;
-
-static void on_painted_stack(void)
-{
-    part_on_stack(call_on_stack);
-}
-
-static size_t depth_of(engine_call *part, struct call *call)
-{
-    const uint64_t paint = 0x9d3cf1a76e5b8240;
-    const size_t words = sizeof stack / sizeof stack[0];
-    for (size_t i = 0; i < words; i++)
-        stack[i] = paint;
-    part_on_stack = part;
-    call_on_stack = call;
-    if (getcontext(&there) != 0)
-        fail("no context");
-    there.uc_stack.ss_sp = stack;
-    there.uc_stack.ss_size = sizeof stack;
-    there.uc_link = &here;
-    makecontext(&there, on_painted_stack, 0);
-    if (swapcontext(&here, &there) != 0)
-        fail("no second stack");
-    size_t untouched = 0;
-    while (untouched < words && stack[untouched] == paint)
-        untouched++;
-    return sizeof stack - 8 * untouched;
-}
-
-static double ratio(uint64_t engine, uint64_t baseline)
-{
-    return (double)engine / (double)baseline;
-}
-
 /* How many transitions fired in a cycle, on average over a report. */
 static double fired_per_cycle(const struct call *call)
 {
@@ -164,11 +83,12 @@ static const size_t words_at[POINTS] = { 0, 1, BENCH_WORDS };
 static uint8_t words[8 * BENCH_WORDS];
 static struct call engine, baseline;
 
-/* The same call of run by both, as it is prepared. */
-static void count_run(uint64_t *by_engine, uint64_t *by_baseline, size_t cycles)
+/* The same call by both, as it is prepared. */
+static void count_both(engine_call *by_engine, engine_call *by_baseline, uint64_t *one, uint64_t *other,
+                       size_t cycles)
 {
-    *by_engine = instructions_of(run_engine, &engine);
-    *by_baseline = instructions_of(run_baseline, &baseline);
+    *one = instructions_of(by_engine, &engine);
+    *other = instructions_of(by_baseline, &baseline);
     compare(&engine, &baseline, cycles);
 }
 
@@ -179,7 +99,7 @@ static void count_points(const struct bench_table *table, uint64_t by_engine[POI
     for (int i = 0; i < POINTS; i++) {
         prepare(&engine, table, words, words_at[i]);
         prepare(&baseline, table, words, words_at[i]);
-        count_run(&by_engine[i], &by_baseline[i], words_at[i]);
+        count_both(run_engine, run_baseline, &by_engine[i], &by_baseline[i], words_at[i]);
     }
 }
 
@@ -194,67 +114,130 @@ static void print_others(void)
         make_bench_table(&table, k);
         count_points(&table, by_engine, by_baseline);
         engine.words_len = baseline.words_len = 8;
-        count_run(&by_engine[POINTS], &by_baseline[POINTS], 1);
+        count_both(run_engine, run_baseline, &by_engine[POINTS], &by_baseline[POINTS], 1);
         printf("%7zu  ", table.length / 8);
         for (int i = 0; i <= POINTS; i++)
             printf("%7.2f%s", ratio(by_engine[i], by_baseline[i]), i < POINTS ? " " : "\n");
     }
 }
 
-int main(int count, char **arguments)
+/* The end of a line: what one call costs both. */
+static void print_both(double by_engine, double by_baseline, const char *end)
 {
-    static struct bench_table table[BENCH_TABLES];
-    uint64_t by_engine[BENCH_TABLES][POINTS], by_baseline[BENCH_TABLES][POINTS];
-    uint64_t check_by_engine[BENCH_TABLES], check_by_baseline[BENCH_TABLES];
-    double fired[BENCH_TABLES];
+    printf("  %10.0f  %10.0f  %6.2f%s", by_engine, by_baseline, ratio(by_engine, by_baseline), end);
+}
 
-    if (count != 2 || (counts = fopen(arguments[1], "r")) == NULL)
-        fail("usage: bench COUNTS, with the file that the plugin writes");
-    empty_part = instructions_of(nothing, &engine);
-    make_bench_words(words);
-    for (int k = 0; k < BENCH_TABLES; k++) {
-        make_bench_table(&table[k], k);
-        count_points(&table[k], by_engine[k], by_baseline[k]);
-        fired[k] = fired_per_cycle(&baseline);
-        check_by_engine[k] = instructions_of(check_engine, &engine);
-        check_by_baseline[k] = instructions_of(check_baseline, &baseline);
-        compare(&engine, &baseline, 0);
-    }
+/* The same of a call that checks the table first, and then without the check. */
+static void print_less_check(double by_engine, double by_baseline, const struct figures *one,
+                             const struct figures *other)
+{
+    print_both(by_engine, by_baseline, "");
+    print_both(by_engine - (double)one->check, by_baseline - (double)other->check, "\n");
+}
 
+/* The stack that one call touches in both. */
+static void print_depth(const char *name, engine_call *by_engine, engine_call *by_baseline, size_t cycles)
+{
+    size_t one = depth_of(by_engine, &engine), other = depth_of(by_baseline, &baseline);
+    compare(&engine, &baseline, cycles);
+    printf("%7zu  %-6s  %10zu  %10zu\n", engine.table->length / 8, name, one, other);
+}
+
+static struct bench_table table[BENCH_TABLES];
+static struct figures engine_cost[BENCH_TABLES], baseline_cost[BENCH_TABLES];
+static double fired[BENCH_TABLES];
+
+/* All calls on one of the tables. */
+static void count_table(int k)
+{
+    make_bench_table(&table[k], k);
+    count_points(&table[k], engine_cost[k].run, baseline_cost[k].run);
+    fired[k] = fired_per_cycle(&baseline);
+    count_both(check_engine, check_baseline, &engine_cost[k].check, &baseline_cost[k].check, 0);
+    agree_on_day(&engine, &baseline);
+    count_both(count_engine, count_baseline, &engine_cost[k].count, &baseline_cost[k].count, BENCH_WORDS);
+    count_both(change_engine, change_baseline, &engine_cost[k].change, &baseline_cost[k].change, 0);
+    count_both(add_engine, add_baseline, &engine_cost[k].add, &baseline_cost[k].add, 2 * BENCH_WORDS);
+}
+
+/* Instructions of run and of check. */
+static void print_run_and_check(void)
+{
     printf("Instructions of one call of run\n");
     printf("records  words      engine    baseline   ratio\n");
     for (int k = 0; k < BENCH_TABLES; k++)
-        for (int i = 0; i < POINTS; i++)
-            printf("%7zu  %5zu  %10" PRIu64 "  %10" PRIu64 "  %6.2f\n", table[k].length / 8, words_at[i],
-                   by_engine[k][i], by_baseline[k][i], ratio(by_engine[k][i], by_baseline[k][i]));
+        for (int i = 0; i < POINTS; i++) {
+            printf("%7zu  %5zu", table[k].length / 8, words_at[i]);
+            print_both(engine_cost[k].run[i], baseline_cost[k].run[i], "\n");
+        }
 
     printf("\nInstructions of one cycle: what %d words cost above none, divided\n", BENCH_WORDS);
     printf("records  fired      engine    baseline   ratio\n");
     for (int k = 0; k < BENCH_TABLES; k++) {
-        uint64_t one = by_engine[k][2] - by_engine[k][0], other = by_baseline[k][2] - by_baseline[k][0];
-        printf("%7zu  %5.1f  %10.1f  %10.1f  %6.2f\n", table[k].length / 8, fired[k],
-               (double)one / BENCH_WORDS, (double)other / BENCH_WORDS, ratio(one, other));
+        double cycle = (double)(engine_cost[k].run[2] - engine_cost[k].run[0]) / BENCH_WORDS;
+        double same = (double)(baseline_cost[k].run[2] - baseline_cost[k].run[0]) / BENCH_WORDS;
+        printf("%7zu  %5.1f  %10.1f  %10.1f  %6.2f\n", table[k].length / 8, fired[k], cycle, same,
+               ratio(cycle, same));
     }
 
     printf("\nInstructions of one call of check\n");
     printf("records             engine    baseline   ratio\n");
-    for (int k = 0; k < BENCH_TABLES; k++)
-        printf("%7zu         %10" PRIu64 "  %10" PRIu64 "  %6.2f\n", table[k].length / 8, check_by_engine[k],
-               check_by_baseline[k], ratio(check_by_engine[k], check_by_baseline[k]));
+    for (int k = 0; k < BENCH_TABLES; k++) {
+        printf("%7zu       ", table[k].length / 8);
+        print_both(engine_cost[k].check, baseline_cost[k].check, "\n");
+    }
+}
 
+/* Instructions of the day's calls, on the report that all words wrote. */
+static void print_day(void)
+{
+    printf("\nInstructions of one call of count, of %d cycles, and without its check\n", BENCH_WORDS);
+    printf("records  fired      engine    baseline   ratio      engine    baseline   ratio\n");
+    for (int k = 0; k < BENCH_TABLES; k++) {
+        printf("%7zu  %5.1f", table[k].length / 8, fired[k]);
+        print_less_check(engine_cost[k].count, baseline_cost[k].count, &engine_cost[k], &baseline_cost[k]);
+    }
+
+    printf("\nInstructions of one call of net change, and without its check\n");
+    printf("records             engine    baseline   ratio      engine    baseline   ratio\n");
+    for (int k = 0; k < BENCH_TABLES; k++) {
+        printf("%7zu       ", table[k].length / 8);
+        print_less_check(engine_cost[k].change, baseline_cost[k].change, &engine_cost[k], &baseline_cost[k]);
+    }
+
+    printf("\nInstructions of one call of add\n");
+    printf("                    engine    baseline   ratio\n              ");
+    print_both(engine_cost[0].add, baseline_cost[0].add, "\n");
+}
+
+/* Stack of each call. */
+static void print_depths(void)
+{
     printf("\nBytes of stack touched by one call\n");
-    printf("records  call       engine    baseline\n");
-    size_t untouched = depth_of(nothing, &engine);
+    printf("records  call        engine    baseline\n");
     for (int k = 0; k < BENCH_TABLES; k++) {
         prepare(&engine, &table[k], words, BENCH_WORDS);
         prepare(&baseline, &table[k], words, BENCH_WORDS);
-        size_t records = table[k].length / 8;
-        printf("%7zu  check  %10zu  %10zu\n", records, depth_of(check_engine, &engine) - untouched,
-               depth_of(check_baseline, &baseline) - untouched);
-        printf("%7zu  run    %10zu  %10zu\n", records, depth_of(run_engine, &engine) - untouched,
-               depth_of(run_baseline, &baseline) - untouched);
-        compare(&engine, &baseline, BENCH_WORDS);
+        print_depth("check", check_engine, check_baseline, 0);
+        print_depth("run", run_engine, run_baseline, BENCH_WORDS);
+        agree_on_day(&engine, &baseline);
+        print_depth("count", count_engine, count_baseline, BENCH_WORDS);
+        print_depth("change", change_engine, change_baseline, 0);
+        print_depth("add", add_engine, add_baseline, 2 * BENCH_WORDS);
     }
+}
+
+int main(int count, char **arguments)
+{
+    if (count != 2)
+        fail("usage: bench COUNTS, with the file that the plugin writes");
+    begin_measuring(arguments[1]);
+    make_bench_words(words);
+    for (int k = 0; k < BENCH_TABLES; k++)
+        count_table(k);
+    print_run_and_check();
+    print_day();
+    print_depths();
     print_others();
     return 0;
 }

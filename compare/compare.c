@@ -1,4 +1,4 @@
-/* Comparing: lent bytes with guards, and the four calls. */
+/* Comparing: lent bytes with guards; check, start, run and lookup. */
 #include "compare.h"
 #include "moezelkring.h"
 
@@ -16,8 +16,7 @@ what_was_met met;
 static mk_answer mk_said;
 static plain_answer plain_said;
 
-/* The case, at the head of a line about a difference. */
-static void name_case(void)
+void name_case(void)
 {
     printf("case %" PRIu64 " seed %" PRIu64 " kind %s: ", at_hand.number,
            at_hand.seed, at_hand.kind);
@@ -86,7 +85,7 @@ static void name_byte(const lent *l, const char *part, const uint8_t *a,
 }
 
 /* Print what the engines last answered and where their bytes part, and end. */
-static void give_up(void)
+_Noreturn void give_up(void)
 {
     printf("; last answers: library %zu where %zu cycles %zu, plain %zu where "
            "%zu cycles %zu", mk_said.number, mk_said.at, mk_said.cycles,
@@ -115,8 +114,7 @@ static void same_after(const lent *l, const char *call, const char *part)
     }
 }
 
-/* Nothing was written at all. */
-static void untouched(const lent *l, const char *call, const char *part)
+void untouched(const lent *l, const char *call, const char *part)
 {
     if (memcmp(l->mk, l->before, whole(l)) == 0
         && memcmp(l->plain, l->before, whole(l)) == 0)
@@ -143,7 +141,7 @@ static void same_answer(const char *call, mk_answer mk, plain_answer plain,
     counts[plain.number] += 1;
 }
 
-/* ---- The four calls, compared ---- */
+/* ---- The calls, compared ---- */
 
 void compare_check(void)
 {
@@ -174,7 +172,7 @@ size_t compare_start(void)
     return plain.number;
 }
 
-size_t compare_run(void)
+plain_answer compare_run(void)
 {
     const plain_answer plain =
         plain_run(table.plain + table.guard, table.length,
@@ -196,7 +194,7 @@ size_t compare_run(void)
     }
     if (plain.number == 0)
         met.word_counts[plain.cycles] = true;
-    return plain.number;
+    return plain;
 }
 
 /* One lookup, in the first so many bytes of the report. */

@@ -4,16 +4,17 @@
    harness [CASES [SEED [FIRST]]] [no-minimum]
    Exit 1 at the first difference, or if the cases met too little. */
 #include "compare.h"
+#include "day.h"
 #include "images.h"
 #include "spoils.h"
+#include "tally.h"
 
 #include <inttypes.h>
 #include <stdio.h>
 #include <stdlib.h>
 #include <string.h>
 
-enum { LEAST_ANSWERS = 100, LEAST_CYCLES = 1000 };
-enum { LONG_EVERY = 250, LARGE_EVERY = 400 };
+enum { LONG_EVERY = 250, LARGE_EVERY = 400, DAY_EVERY = 3 };
 
 /* ---- Kinds of case ---- */
 
@@ -154,7 +155,8 @@ static void choose_report(dice *d)
     lend(d, &report, NULL, length);
 }
 
-/* One case: a table, checked, started, and run up to three times. */
+/* One case: a table, checked, started, and run up to three times; then, in one
+   of a few, a day. */
 static void one_case(void)
 {
     static made_net n;
@@ -171,38 +173,24 @@ static void one_case(void)
                                         : wrong_image_length(&d));
     const bool started = compare_start() == 0;
     choose_image(&d, &n, started);
+    plain_answer ran = { 0, 0, 0 };
     for (unsigned run = 0; run < 3; run++) {
+        if (run != 0)
+            lend_on(&image);
         choose_words(&d, run == 0);
         choose_report(&d);
-        const size_t number = compare_run();
+        ran = compare_run();
         compare_lookups(&d);
-        if (number >= 1 && number <= 10)
+        if (ran.number >= 1 && ran.number <= 10)
             break;
         if (!one_in(&d, 3))
             break;
-        lend_on(&image);
     }
+    if (one_in(&d, DAY_EVERY))
+        one_day(&d, &n, ran);
 }
 
 /* ---- The end ---- */
-
-/* How often a call gave each answer. */
-static void print_counts(const char *call, const uint64_t counts[ANSWERS])
-{
-    printf("%s answers:", call);
-    for (unsigned i = 0; i < ANSWERS; i++)
-        printf(" %u:%" PRIu64, i, counts[i]);
-    printf("\n");
-}
-
-/* How many numbers of words were run to the end. */
-static unsigned word_counts_met(void)
-{
-    unsigned counts = 0;
-    for (unsigned i = 0; i <= MOST_WORDS; i++)
-        counts += met.word_counts[i];
-    return counts;
-}
 
 /* What the cases met. */
 static void print_met(uint64_t cases)
@@ -213,44 +201,7 @@ static void print_met(uint64_t cases)
         printf("%s %s %" PRIu64, k == 0 ? "" : ",", kind_names[k],
                kinds_made[k]);
     printf("\n");
-    print_counts("check", met.check);
-    print_counts("start", met.start);
-    print_counts("run", met.run);
-    printf("word counts met: %u of %u\n", word_counts_met(), MOST_WORDS + 1);
-    printf("cycles finished: %" PRIu64 "\n", met.cycles.cycles);
-    printf("  two or more fired: %" PRIu64 "\n", met.cycles.several_fired);
-    printf("  a residual stopped a firable transition: %" PRIu64 "\n",
-           met.cycles.residual_stopped);
-    printf("  a withdrawal gave a reset order: %" PRIu64 "\n",
-           met.cycles.withdrawal_reset);
-    printf("  a sort 1 counter stood past b: %" PRIu64 "\n",
-           met.cycles.past_b);
-}
-
-/* Did the cases meet enough to mean something? */
-static bool met_enough(void)
-{
-    bool enough = true;
-    for (unsigned i = 0; i < ANSWERS; i++) {
-        if (met.run[i] < LEAST_ANSWERS) {
-            printf("too little: run answered %u only %" PRIu64 " times\n", i,
-                   met.run[i]);
-            enough = false;
-        }
-    }
-    if (word_counts_met() != MOST_WORDS + 1) {
-        printf("too little: not every number of words from 0 to 512\n");
-        enough = false;
-    }
-    if (met.cycles.several_fired < LEAST_CYCLES
-        || met.cycles.residual_stopped < LEAST_CYCLES
-        || met.cycles.withdrawal_reset < LEAST_CYCLES
-        || met.cycles.past_b < LEAST_CYCLES) {
-        printf("too little: a sort of cycle came fewer than %d times\n",
-               LEAST_CYCLES);
-        enough = false;
-    }
-    return enough;
+    print_tally();
 }
 
 int main(int argc, char **argv)

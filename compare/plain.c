@@ -1,5 +1,5 @@
-/* The plain engine, second half: images, one cycle, and the four calls. All
-   numbers are wide, so that no sum can run over. */
+/* The plain engine, second part: images, one cycle, and check, start, run and
+   lookup. All numbers are wide, so that no sum can run over. */
 #include "plain_table.h"
 
 #include <string.h>
@@ -296,7 +296,7 @@ static plain_answer one_cycle(const net *n, state *s, uint64_t word,
     return answer(0, 0, 0);
 }
 
-/* ---- The four calls ---- */
+/* ---- Check, start, run and lookup ---- */
 
 /* Check: answers 1 to 9. */
 plain_answer plain_check(const uint8_t *table, size_t table_len)

@@ -1,4 +1,4 @@
-/* The plain engine, first half: records and answers 1 to 9, in the order in
+/* The plain engine, first part: records and answers 1 to 9, in the order in
    which the page gives them. */
 #include "plain_table.h"
 

@@ -1,4 +1,4 @@
-/* What the two halves of the plain engine share: numbers and sets in bytes,
+/* What the parts of the plain engine share: numbers and sets in bytes,
    and the net that a table describes.
 
    Compiled with -DPLANTED_FAULT=n it gets one rule wrong on purpose:
@@ -13,11 +13,19 @@
    9 a sort 2 counter counts on above a
    10 input arcs of different sorts do not count as the same arc
    11 a reset order once given stays
-   12 lookup multiplies without minding how far a number reaches */
+   12 lookup multiplies without minding how far a number reaches
+   13 count counts the active actions, not the fired transitions
+   14 count leaves out the last record
+   15 answer 14 names the last such record
+   16 answer 14 is given for a record before it is for the length
+   17 net change gives back what was taken and takes what was put
+   18 net change lets test arcs take
+   19 net change never answers 15
+   20 added cycles begin again at 0 above 4,294,967,295
+   21 a count refused with 14 leaves what it counted */
 #ifndef PLAIN_TABLE_H
 #define PLAIN_TABLE_H
 
-#include "page.h"
 #include "plain.h"
 
 #include <stdbool.h>

@@ -1,5 +1,6 @@
-/* The plain engine on the page's own nets: N with its four lines, and nets 1
-   to 12. Anything that comes out otherwise is printed, and the exit is 1. */
+/* The plain engine on the page's own nets: N with its four lines and its day,
+   and nets 1 to 12. Anything that comes out otherwise is printed, and the exit
+   is 1. */
 #include "page.h"
 #include "plain.h"
 
@@ -220,13 +221,72 @@ static void nets_fired(void)
     fires("10, one token", NET_10(1), none, BYTES(0), 1);
 }
 
+/* Hold the summary of N's five cycles, so many times over, to the fired sets
+   1, 0, 4, 2, 8: each of the four transitions once. */
+static void counts_as(const char *name, plain_summary got, uint32_t times)
+{
+    expect(name, "the number", got.number, 0);
+    expect(name, "where", got.at, 0);
+    for (unsigned i = 0; i < SUMMARY_NUMBERS; i++)
+        expect(name, "a count", got.counts[i],
+               i == 0 ? 5 * times : i <= 4 ? times : 0);
+}
+
+/* Hold a refused summary to its number and where, and to being all zeros. */
+static void refuses(const char *name, plain_summary got, size_t number,
+                    size_t at)
+{
+    expect(name, "the number", got.number, number);
+    expect(name, "where", got.at, at);
+    for (unsigned i = 0; i < SUMMARY_NUMBERS; i++)
+        expect(name, "a count", got.counts[i], 0);
+}
+
+/* The day of net N, words 0, 0, 1, 0, 0. */
+static void net_n_day(void)
+{
+    static const uint8_t table[] = { NET_N_UNSETTLED, OVER(0, 1) };
+    uint8_t fresh[IMAGE_BYTES], image[IMAGE_BYTES];
+    uint8_t report[CYCLE_BYTES * MOST_CYCLES];
+    const size_t five = 5 * CYCLE_BYTES;
+    starts_and_runs("N's day", table, sizeof table, BYTES(0, 0, 1, 0, 0), 5,
+                    image, report);
+    plain_start(table, sizeof table, fresh, IMAGE_BYTES);
+    plain_summary s = plain_count(table, sizeof table, report, five);
+    counts_as("N's day", s, 1);
+    counts_as("N's day twice", plain_add(s.counts, s.counts), 2);
+    plain_change c = plain_net_change(table, sizeof table, s.counts);
+    expect("N's day", "net change's number", c.number, 0);
+    for (unsigned p = 0; p < PLACES; p++)
+        expect("N's day", "start marking and net change",
+               fresh[4 * p] + (uint64_t)c.change[p], image[4 * p]);
+    expect("N's day", "what place 0 lost", (uint64_t)-c.change[0], 1);
+
+    report[CYCLE_BYTES * 3] |= 16;
+    refuses("N's day, t4 fired", plain_count(table, sizeof table, report, five),
+            14, 3);
+    refuses("N's day, a byte more",
+            plain_count(table, sizeof table, report, five + 1), 14, 512);
+    refuses("N's day without priority",
+            plain_count(table, sizeof table - 8, report, five), 9, 1);
+    s.counts[0] = 0;
+    refuses("N's day in no cycles", plain_add(s.counts, s.counts), 15, 0);
+    c = plain_net_change(table, sizeof table, s.counts);
+    expect("N's day in no cycles", "net change's number", c.number, 15);
+    expect("N's day in no cycles", "net change", (uint64_t)c.change[0], 0);
+    memset(s.counts, 0, sizeof s.counts);
+    s.counts[0] = UINT32_MAX / 2 + 1;
+    refuses("4,294,967,296 cycles", plain_add(s.counts, s.counts), 15, 0);
+}
+
 int main(void)
 {
     net_n_lines();
     nets_checked();
     nets_fired();
     net_4_counters();
+    net_n_day();
     if (!wrong)
-        printf("worked nets: N and 1 to 12 as on the page\n");
+        printf("worked nets: N, its day, and 1 to 12 as on the page\n");
     return wrong;
 }
