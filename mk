@@ -9,10 +9,10 @@ import sys
 sys.pycache_prefix = os.path.join(os.path.dirname(os.path.realpath(__file__)), "target", "python")
 from tools.notation import Wrong  # noqa: E402: compiled files go below target/
 
-VERBS = ("table", "text", "check", "run", "draw", "waves")
+VERBS = ("table", "text", "check", "run", "day", "draw", "waves")
 ABOUT = """Keeps nets: as text, as tables, as drawings, as waves. Every verb reads NET as a .net text or as a .bin
 table, whose names are plain (p3 is place 3, t0 transition 0) or come from a file. The engine alone judges and runs a
-net."""
+net, and counts what fired."""
 EXAMPLE = "example:\n  mk check examples/five-am.net\n\nmk VERB --help tells more."
 ENDS = """exit status:
   0  done
@@ -26,6 +26,7 @@ ENDS = """exit status:
   FILE: found names for .., expected a .bin table: a text has its own names
   FILE: found .., expected a file that can be read and written
   FILE: found no such folder, expected a folder to write into
+  FILE: found a file that the run reads or keeps already, expected a file of its own
   FILE:LINE: found '..', expected a line that begins with one of: ..
   FILE:LINE: found '..', expected one of these forms: ..
   FILE:LINE: found '..', expected a name in place of '..', which is a word of the notation
@@ -39,6 +40,8 @@ ENDS = """exit status:
   PROGRAM: found .., expected a program that ran to its end line
   PROGRAM: found .., expected a command that starts ..
   PROGRAM: found .., expected the answer of the sequencer, ..
+  PROGRAM: found .., expected a program that leaves report.bin and image.bin
+  PROGRAM: found .., expected the lines cycles, fired, change
   dot: found .., expected Graphviz, Debian's package graphviz
   dot: found .., expected a drawing that it lays out"""
 

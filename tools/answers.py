@@ -5,7 +5,7 @@ import sys
 from tools.notation import ARC, BASIC, PLACE, POST, PRIORITY, TRANSITION, words_for
 
 WORDS = ("accepted", "length", "kind", "field", "twice", "unknown", "empty", "isolated", "circle", "conflict", "state",
-         "words", "room", "full")
+         "words", "room", "full", "report", "count")
 # What answer 3 asks of a record, for each kind.
 FIELDS = {1: "place 0 to 127; bytes 2, 6 and 7 are 0",
           2: "transition 0 to 63; untimed with no interval, or 1 <= a <= b <= 65534, or a from 1 to 65535 and no b; "
@@ -15,27 +15,29 @@ FIELDS = {1: "place 0 to 127; bytes 2, 6 and 7 are 0",
           5: "transitions 0 to 63; bytes 4 to 7 are 0",
           6: "place 0 to 127, action 0 to 63; bytes 4 to 7 are 0",
           7: "transition and function 0 to 63; bytes 4 to 7 are 0"}
+OTHER_IMAGE = "is it the image of another net? where there is no file, mk run --image begins with the fresh net"
 
 
-def tell(net, answer, words=None, out=None):
+def tell(net, answer, words=None, out=None, report=("", b"")):
     """Prints an answer: its word first, then what it points at."""
     out = out or sys.stdout
-    head, *lines = told(net, answer, words)
+    head, *lines = told(net, answer, words, report)
     if out.isatty() and "NO_COLOR" not in os.environ:
         head = f"\033[{31 if answer.number else 32}m{head}\033[0m"
     print("\n".join([head] + lines), file=out)
 
 
-def told(net, answer, words=None):
-    """The lines that tell an answer; words are given where they were run."""
+def told(net, answer, words=None, report=("", b"")):
+    """The lines that tell an answer; words are given where they were run, and a report, as its path and its bytes,
+    where it was counted."""
     if answer.number == 0:
         return ["accepted: " + ("the net is well defined" if words is None else f"{answer.cycles} cycles")]
     after = f" after {answer.cycles} cycles" if answer.cycles else ""
     head = f"refused{after}: {WORDS[answer.number]} (answer {answer.number}, where {answer.where})"
-    return [head] + [f"  {line}" for line in points_at(net, answer, words or b"")]
+    return [head] + [f"  {line}" for line in points_at(net, answer, words or b"", report)]
 
 
-def points_at(net, answer, words):
+def points_at(net, answer, words, report):
     """What an answer and its where point at."""
     number, where = answer.number, answer.where
     if number in (2, 3, 4, 5):
@@ -50,13 +52,28 @@ def points_at(net, answer, words):
         cycle = answer.cycles + 1
         return [f"{net.full('PLACE', where)} would hold more than 65535 tokens in cycle {cycle}; into it put:",
                 *shown_arcs(net, lambda arc: arc.sort == POST and arc.first == where)]
-    if number == 10 and where != 192:
-        return [f"record {where} of the image, {place_or_transition(net, where)}, does not fit the net"]
+    if number == 10:
+        found = f"record {where} of the image, {place_or_transition(net, where)}, does not fit the net"
+        return [found if where != 192 else "the image is not 768 bytes long", OTHER_IMAGE]
+    if number == 14:
+        return a_report(net, where, *report)
     return [{1: f"{len(net.table())} bytes; a table is whole records of 8 bytes, at most 1024 of them",
              6: "the net has no transition" if where else "the net has no place",
-             10: "the image is not 768 bytes long",
              11: f"{len(words)} bytes; the words are 8 bytes a cycle, at most 512 cycles",
-             12: "the report is too short, or the image is not 768 bytes long"}[number]]
+             12: "the report is too short, or the image is not 768 bytes long",
+             15: f"with {report[0]} the day has more than 4294967295 cycles; count it in parts"}[number]]
+
+
+def a_report(net, where, path, report):
+    """Answer 14 points at a report: its length, or the first record in which a transition fired that is not there."""
+    if where == 512:
+        return [f"{path}: {len(report)} bytes; a report is 24 bytes a cycle, at most 512 cycles",
+                "count the files that mk run --report kept, each by itself"]
+    fired = int.from_bytes(report[24 * where:24 * where + 8], "little")
+    declared = {one.first for one in net.records if one.kind == TRANSITION}
+    first = next(k for k in range(64) if fired >> k & 1 and k not in declared)
+    return [f"{path}, record {where}, cycle {where + 1}: transition {first} fired, which the net does not declare",
+            "is this the report of another net?"]
 
 
 def a_record(net, number, where):

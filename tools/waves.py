@@ -4,7 +4,7 @@ from collections import namedtuple
 from pathlib import Path
 
 from tools.answers import tell
-from tools.engine import ask
+from tools.engine import FULL, ask
 from tools.net import read_net, read_words
 from tools.notation import TRANSITION, Wrong
 from tools.picture import picture
@@ -19,7 +19,6 @@ finished ones are written, and the end is 1."""
 EXAMPLE = """  mk waves examples/five-am-priority.net examples/five-am.words -o run.vcd
   mk waves net.bin words.bin -o run.svg"""
 ENDINGS = (".vcd", ".svg")
-FULL = 13  # the answer that refuses a cycle, after the finished ones
 # A wave: its group, its name, how many bits it has, and its value in each cycle from 0 on.
 Wave = namedtuple("Wave", "group name bits values")
 

@@ -18,7 +18,7 @@ FILES = {
     "plain.net": "name place 1 p2\n", "beyond.net": "place p256\n",
     "many.net": "".join(f"place x_{k}\n" for k in range(257)),
     "typo.words": "ok\nko\n", "wide.net": "wants t0 c70\n", "wide.words": "c70\n",
-    "odd.bin": b"\1\0\0\0\0\0\0\0\2", "good.bin": struct.pack("<BBBBHH", 1, 0, 0, 0, 1, 0),
+    "words.bin": bytes(24), "odd.bin": b"\1\0\0\0\0\0\0\0\2", "good.bin": struct.pack("<BBBBHH", 1, 0, 0, 0, 1, 0),
 }
 # What is asked, and a part of what standard error says.
 TROUBLE = (
@@ -36,6 +36,15 @@ TROUBLE = (
     ("text good.net --names names", "names: found names for good.net"),
     ("draw good.net -o nowhere/net.svg", "nowhere/net.svg: found no such file or directory"),
     ("table good.net -o nowhere", "nowhere: found no such folder"),
+    ("run good.net good.words --report nowhere/report.bin", "nowhere/report.bin: found no such folder"),
+    ("run good.net good.words --report report.txt", "report.txt: found the ending '.txt', expected a .bin file to"),
+    ("run good.net good.words --image image", "image: found the ending '', expected a .bin file to keep"),
+    ("run good.net good.words --image folder.bin", "folder.bin: found a folder, expected a .bin file to keep"),
+    ("run good.net words.bin --report words.bin", "words.bin: found a file that the run reads or keeps already"),
+    ("run good.net good.words --report one.bin --image ./one.bin", "found a file that the run reads or keeps already"),
+    ("day good.net nowhere.bin", "nowhere.bin: found no such file, expected a report"),
+    ("day good.net words.bin folder.bin", "folder.bin: found a folder, expected a report"),
+    ("day good.net good.words", "good.words: found the ending '.words', expected a report: a .bin file"),
     ("check verb.net", "verb.net:2: found 'plaze', expected a line that begins with one of: place, transition, basic"),
     ("check form.net", "form.net:2: found 'basic p t', expected one of these forms: basic PLACE -> TRANSITION, basic"),
     ("check raw.net", "raw.net:1: found 'raw 01 02', expected one of these forms: raw BYTE BYTE"),
@@ -52,6 +61,9 @@ TROUBLE = (
     ("check good.net MOEZELKRING=true", "sequencer: found status 0 and no end line"),
     ("check good.net MOEZELKRING=/nowhere/program", "/nowhere/program: found No such file"),
     ("waves good.net good.words MOEZELKRING_STATES=echo_end", "states: found the answer"),
+    ("run good.net good.words --report one.bin MOEZELKRING_STATION=accept", "station: found no report.bin"),
+    ("run good.net good.words --report one.bin MOEZELKRING_STATION=unwritten", "station: found report.bin cannot be"),
+    ("day good.net MOEZELKRING_DAY=accept", "day: found 0 lines before its end line"),
     ("draw good.net PATH", "dot: found no such command"),
     ("draw good.net DOT", "dot: found it did not go well, expected a drawing"),
 )
@@ -100,7 +112,7 @@ def hold_trouble():
     for said, wanted in TROUBLE:
         words = [word for word in said.split() if "=" not in word and word not in ("PATH", "DOT")]
         changed = dict(word.split("=") for word in said.split() if "=" in word)
-        changed = {name: str(SCRATCH / value) if value == "echo_end" else value for name, value in changed.items()}
+        changed = {name: str(SCRATCH / value) if Path(value).exists() else value for name, value in changed.items()}
         if said.endswith("PATH"):  # a machine that has no Graphviz and cannot get it
             changed.update(PATH=str(SCRATCH / "bare"), MOEZELKRING=str(SCRATCH / "accept"))
         if said.endswith("DOT"):
@@ -125,7 +137,7 @@ def hold_answers():
     for word, net, wanted in ANSWERS:
         name = "answer.net" if isinstance(net, str) else "answer.bin"
         Path(name).write_bytes(net.encode() if isinstance(net, str) else net)
-        for verb in ("check", "run") if word != "full" else ("run",):
+        for verb in ("check", "run", "day") if word != "full" else ("run",):
             done = mk(f"{verb} {name}" + (" one.bin" if verb == "run" else ""))
             if done.returncode != 1 or f"refused: {word} (answer" not in done.stdout or wanted not in done.stdout:
                 sys.exit(f"mk: mk {verb}, answer '{word}': ended with {done.returncode}, {done.stdout}{done.stderr}")
@@ -150,7 +162,7 @@ def hold_good():
         sys.exit("mk: text does not take its names from the file")
     if mk("check good.net").stdout != "accepted: the net is well defined\n":
         sys.exit("mk: check does not say accepted")
-    for verb in ("table", "text", "check", "run", "draw", "waves"):
+    for verb in ("table", "text", "check", "run", "day", "draw", "waves"):
         done = mk(f"{verb} --help")
         if done.returncode or f"example:\n  mk {verb} " not in done.stdout:
             sys.exit(f"mk: mk {verb} --help has no example")
@@ -159,12 +171,13 @@ def hold_good():
 def main():
     for name, content in FILES.items():
         Path(name).write_bytes(content if isinstance(content, bytes) else content.encode())
-    for folder in ("folder", "bare", "dot"):
+    for folder in ("folder", "folder.bin", "bare", "dot"):
         Path(folder).mkdir()
     for tool, real in (("python3", sys.executable), ("bash", "/bin/bash"), ("env", "/usr/bin/env")):
         Path("bare", tool).symlink_to(real)
     for script, says in (("dot/dot", "echo it did not go well >&2; exit 1"), ("echo_end", "echo end 7 7 7"),
-                         ("accept", "echo end 0 0 0")):
+                         ("accept", "echo end 0 0 0"),
+                         ("unwritten", "echo report.bin cannot be written; echo end 0 0 1")):
         Path(script).write_text(f"#!/bin/bash\n{says}\n", encoding="utf-8")
         Path(script).chmod(0o755)
     hold_trouble()

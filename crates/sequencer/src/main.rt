@@ -1,21 +1,6 @@
 // The program: reads net.bin and words.bin in the current directory, starts the net, runs it, and prints a line for
 // each finished cycle and the end line.
-use engine::Answer;
 use libc::STDOUT_FILENO;
-ghost use Rattle.io.specs.Counts.{Counts};
-
-// What a file holds, as far as the buffer goes; nothing where it cannot be read.
-fn read(name: &[u8], buf: &mut [u8]) -> usize
-    ensures { λ r. ⌜ Counts r (now (buf .exit)) ⌝ }
-{
-    let fd = os::open_read(name);
-    if fd < 0 {
-        return 0;
-    }
-    let n = io::read_full(fd, buf);
-    libc::close(fd);
-    n
-}
 
 // A blank and one of the three sets of a cycle's record, as 16 hex digits.
 fn set(record: &[u8], k: usize) {
@@ -46,35 +31,24 @@ fn lines(report: &[u8], cycles: usize) {
     }
 }
 
-// The last line: number, where and cycles.
-fn end(a: Answer) {
-    io::write_all(STDOUT_FILENO, b"end ");
-    io::print_decimal(STDOUT_FILENO, a.number as u64);
-    io::write_all(STDOUT_FILENO, b" ");
-    io::print_decimal(STDOUT_FILENO, a.at as u64);
-    io::write_all(STDOUT_FILENO, b" ");
-    io::print_decimal(STDOUT_FILENO, a.cycles as u64);
-    io::write_all(STDOUT_FILENO, b"\n");
-}
-
 // Starts the net and runs it on the words; a start that refuses has the last word.
 fn play(t: &[u8], words: &[u8]) {
     let mut image = [0u8; 768];
     let started = engine::start(t, &mut image);
     if started.number != 0 {
-        end(started);
+        programs::end(started.number, started.at, started.cycles);
         return;
     }
     let mut report = [0u8; 12288];
     let ran = engine::run(t, &mut image, words, &mut report);
     lines(&report, ran.cycles);
-    end(ran);
+    programs::end(ran.number, ran.at, ran.cycles);
 }
 
 fn main() {
     let mut net = [0u8; 8200];
     let mut words = [0u8; 4104];
-    let n = read(b"net.bin", &mut net);
-    let m = read(b"words.bin", &mut words);
+    let n = programs::read(b"net.bin", &mut net);
+    let m = programs::read(b"words.bin", &mut words);
     play(&net[..n], &words[..m]);
 }

@@ -1,21 +1,6 @@
 // The program that shows what a run leaves: reads net.bin and words.bin in the current directory as the sequencer does,
 // and prints the state image of the fresh net and after each finished cycle, then the sequencer's end line.
-use engine::Answer;
 use libc::STDOUT_FILENO;
-ghost use Rattle.io.specs.Counts.{Counts};
-
-// What a file holds, as far as the buffer goes; nothing where it cannot be read.
-fn read(name: &[u8], buf: &mut [u8]) -> usize
-    ensures { λ r. ⌜ Counts r (now (buf .exit)) ⌝ }
-{
-    let fd = os::open_read(name);
-    if fd < 0 {
-        return 0;
-    }
-    let n = io::read_full(fd, buf);
-    libc::close(fd);
-    n
-}
 
 // A blank and eight bytes of the image, as a number of 16 hex digits.
 fn eight(image: &[u8], k: usize) {
@@ -69,35 +54,24 @@ fn states(t: &[u8], image: &mut [u8], words: &[u8], cycles: usize) {
     }
 }
 
-// The last line: number, where and cycles.
-fn end(a: Answer) {
-    io::write_all(STDOUT_FILENO, b"end ");
-    io::print_decimal(STDOUT_FILENO, a.number as u64);
-    io::write_all(STDOUT_FILENO, b" ");
-    io::print_decimal(STDOUT_FILENO, a.at as u64);
-    io::write_all(STDOUT_FILENO, b" ");
-    io::print_decimal(STDOUT_FILENO, a.cycles as u64);
-    io::write_all(STDOUT_FILENO, b"\n");
-}
-
 // Starts the net and runs it on the words, which says how many cycles it finishes; then their states.
 fn play(t: &[u8], words: &[u8]) {
     let mut image = [0u8; 768];
     let started = engine::start(t, &mut image);
     if started.number != 0 {
-        end(started);
+        programs::end(started.number, started.at, started.cycles);
         return;
     }
     let mut report = [0u8; 12288];
     let ran = engine::run(t, &mut image, words, &mut report);
     states(t, &mut image, words, ran.cycles);
-    end(ran);
+    programs::end(ran.number, ran.at, ran.cycles);
 }
 
 fn main() {
     let mut net = [0u8; 8200];
     let mut words = [0u8; 4104];
-    let n = read(b"net.bin", &mut net);
-    let m = read(b"words.bin", &mut words);
+    let n = programs::read(b"net.bin", &mut net);
+    let m = programs::read(b"words.bin", &mut words);
     play(&net[..n], &words[..m]);
 }
