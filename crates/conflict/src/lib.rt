@@ -1,4 +1,5 @@
 // The transitions in conflict, and the least pair of them that nothing settles (answer 9).
+#![tactic(auto)]
 ghost use Rattle.std.specs.Prelude.{◌≡◌, ◌+◌, ◌*◌, ◌≤◌, ◌<◌, length, get_or, replicate};
 ghost use Rattle.meaning.specs.Below.{some, first};
 ghost use Rattle.conflict.specs.Pairs.{PairedUp, TakerlessFrom, Conflicts};

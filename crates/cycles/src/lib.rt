@@ -1,5 +1,6 @@
 // The cycles of a call: the rows laid out for them, then one cycle a word, from the image that is lent into the report
 // that is lent.
+#![tactic(auto)]
 ghost use Rattle.std.specs.Prelude.{true, false, not, ◌&&◌, ◌||◌, ◌++◌, ◌≡◌, ℕ, ◌+◌, ◌*◌, ◌≤◌, ◌<◌, eqb, length, take, drop, replicate};
 ghost use Rattle.meaning.specs.Bytes.{bit, bytes};
 ghost use Rattle.rows.specs.Rows.{looks, limit_of};
@@ -104,7 +105,7 @@ fn write(report: &mut [u8], at: usize, fired: u64, actions: u64, functions: u64)
 }
 
 // How the words came to their end: number and where, the finished cycles, and the reset orders then.
-#[derive(Drop)]
+#[derive(Clone, Copy)]
 struct Ended {
     number: usize,
     at: usize,
@@ -187,7 +188,7 @@ fn cycles(
 }
 
 // An answer: its number (0 accepted), the page's where, the cycles done.
-#[derive(Drop)]
+#[derive(Clone, Copy)]
 pub struct Told {
     pub number: usize,
     pub at: usize,

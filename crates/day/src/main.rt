@@ -1,6 +1,7 @@
 // The program that counts a day: reads net.bin in the current directory and the reports that its arguments name, counts
 // and adds them in order, and prints the cycles, how often each transition fired, the net change of each place, and the
 // end line, whose last number is how many reports were counted. A refusal prints the end line alone.
+#![tactic(auto)]
 ghost use Rattle.std.specs.Prelude.{◌≡◌, nat_abs};
 
 use libc::STDOUT_FILENO;

@@ -7,7 +7,7 @@ use super::Answer;
 use rows::Declared;
 
 // What is found of the bytes lent beside a table: number and where of an answer.
-#[derive(Drop)]
+#[derive(Clone, Copy)]
 struct Finding {
     number: usize,
     at: usize,

@@ -1,4 +1,5 @@
 // The engine's calls over lent bytes: check, start, run, lookup. Each call has its answer table in docs/ENGINE.md.
+#![tactic(auto)]
 ghost use Rattle.std.specs.Prelude.{true, false, ◌≡◌, ◌≤◌, length};
 ghost use Rattle.meaning.specs.Table.{table};
 ghost use Rattle.meaning.specs.Defined.{bad_length};
@@ -9,7 +10,7 @@ ghost use Rattle.engine.specs.Said.{said};
 mod lent; // lent.rt: what is lent beside an accepted table
 
 // An answer: its number (0 accepted), the page's where, the cycles done.
-#[derive(Drop)]
+#[derive(Clone, Copy)]
 pub struct Answer {
     pub number: usize,
     pub at: usize,

@@ -1,5 +1,6 @@
 // The fired set (definition 6): firable transitions are decided once all their rivals are, each against what the
 // fired ones among them leave.
+#![tactic(auto)]
 ghost use Rattle.std.specs.Prelude.{cond, ◌≡◌, ◌-◌, ◌≤◌, ◌<◌, get_or};
 ghost use Rattle.meaning.specs.Below.{sum};
 ghost use Rattle.meaning.specs.Bytes.{bit};
@@ -11,7 +12,7 @@ use arcs::{HIGH, LOW, RIVALS};
 use rows::TAKERS;
 
 // What a round leaves undecided, and what has fired after it.
-#[derive(Drop)]
+#[derive(Clone, Copy)]
 struct Round {
     left: u64,
     out: u64,

@@ -1,4 +1,5 @@
 // Answers 2 to 9 of a table, one stage after the other, and the rows of one that is accepted.
+#![tactic(auto)]
 ghost use Rattle.std.specs.Prelude.{false, ◌≡◌, ◌*◌, ◌≤◌, length};
 ghost use Rattle.meaning.specs.Below.{first};
 ghost use Rattle.meaning.specs.Table.{table};
@@ -32,7 +33,7 @@ fn first_none(known: Declared) -> usize
 }
 
 // What is found of a table: number and where of its answer, and what it declares.
-#[derive(Drop)]
+#[derive(Clone, Copy)]
 pub struct Verdict {
     pub number: usize,
     pub at: usize,

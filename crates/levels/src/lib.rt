@@ -1,6 +1,7 @@
 // Enabled by a marking: whom the tokens of each place hold back, which actions they activate and who lacks tokens
 // there, kept place by place. What is kept holds for every number of tokens on a level, and is made anew only when a
 // place leaves its level.
+#![tactic(auto)]
 ghost use Rattle.std.specs.Prelude.{◌&&◌, ◌≡◌, ℕ, ◌+◌, ◌*◌, ◌≤◌, ◌<◌, get_or};
 ghost use Rattle.meaning.specs.Below.{some};
 ghost use Rattle.meaning.specs.Bytes.{bit};
@@ -40,7 +41,7 @@ pub fn lacking(tokens: u32, arcs: u64, w: &[u16; 64], s: &[u8; 64]) -> u64
 
 // A level of a place's tokens, from one number to another, both included: with any number on it the place holds the
 // same back, and the same lack tokens.
-#[derive(Drop)]
+#[derive(Clone, Copy)]
 pub struct Level {
     pub held: u64,
     pub lacks: u64,
@@ -149,7 +150,7 @@ pub fn relevel(
 }
 
 // What all places together do: whom they hold back, and which actions they activate.
-#[derive(Drop)]
+#[derive(Clone, Copy)]
 pub struct Seen {
     pub held: u64,
     pub actions: u64,

@@ -1,5 +1,6 @@
 // What firing does to the marking: what the fired transitions take and put at each place, and the marking after it,
 // with what is kept of each place made anew where the place left its level.
+#![tactic(auto)]
 ghost use Rattle.std.specs.Prelude.{cond, ◌||◌, ◌≡◌, ℕ, ◌≤◌, ◌<◌, ltb, get_or};
 ghost use Rattle.meaning.specs.Below.{first};
 ghost use Rattle.marking.specs.Moves.{TakeAsks, Took, GiveAsks, Gave, TallyAsks, Tallied};
@@ -49,7 +50,7 @@ fn give(first: u16, put: &mut [u32; 128], posts: &[u16])
 }
 
 // The functions of those that fire, and who lacked tokens at the places from which they take.
-#[derive(Drop)]
+#[derive(Clone, Copy)]
 pub struct Moved {
     pub functions: u64,
     pub lack: u64,
@@ -212,7 +213,7 @@ fn clear(taken: &mut [u32; 128], put: &mut [u32; 128], n: usize)
 }
 
 // The lowest full place, 128 if there is none, and whom the places starve.
-#[derive(Drop)]
+#[derive(Clone, Copy)]
 pub struct Settled {
     pub full: usize,
     pub starved: u64,

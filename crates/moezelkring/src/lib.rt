@@ -1,11 +1,12 @@
 // The engine's calls for C: include/moezelkring.h is the manual. Each promises what the engine's own call promises.
+#![tactic(auto)]
 ghost use Rattle.meaning.specs.Promise.{Checked, Started, Ran};
 ghost use Rattle.summary.specs.Promised.{Counted, Added, NetChanged};
 ghost use Rattle.moezelkring.specs.Exported.{told, counted, changed, PartOf};
 
 // An answer: its number (0 accepted), the page's where, the cycles done.
 #[repr(C)]
-#[derive(Drop)]
+#[derive(Clone, Copy)]
 pub struct Told {
     pub number: usize,
     pub at: usize,
@@ -14,7 +15,7 @@ pub struct Told {
 
 // A part of a report: where it starts and how long it is.
 #[repr(C)]
-#[derive(Drop)]
+#[derive(Clone, Copy)]
 pub struct Part {
     pub from: usize,
     pub length: usize,
@@ -22,7 +23,7 @@ pub struct Part {
 
 // A summary: answer number and where, then the cycles and how often each transition fired.
 #[repr(C)]
-#[derive(Drop)]
+#[derive(Clone, Copy)]
 pub struct Sum {
     pub number: usize,
     pub at: usize,
@@ -31,7 +32,7 @@ pub struct Sum {
 
 // A net change: answer number and where, then a signed number for each place.
 #[repr(C)]
-#[derive(Drop)]
+#[derive(Clone, Copy)]
 pub struct Difference {
     pub number: usize,
     pub at: usize,

@@ -1,5 +1,6 @@
 // Whom the records name: a place or a transition that is not declared (answer 5), and one that is declared without an
 // arc (answer 7).
+#![tactic(auto)]
 ghost use Rattle.std.specs.Prelude.{not, ◌&&◌, ◌||◌, ◌≡◌, ℕ, ◌*◌, ◌≤◌, ◌<◌, eqb, length};
 ghost use Rattle.meaning.specs.Below.{some, first};
 ghost use Rattle.meaning.specs.Bytes.{bit};
@@ -43,7 +44,7 @@ fn with_namer(named: u64, own: u64, t: usize) -> u64
 }
 
 // What a walk over the places shows: whether one that is named is not declared, and the transitions of all arcs.
-#[derive(Drop)]
+#[derive(Clone, Copy)]
 struct Walked {
     unknown: bool,
     arced: u64,

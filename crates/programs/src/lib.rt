@@ -1,4 +1,5 @@
 // What the programs share: how they read and write a file, and the end line.
+#![tactic(auto)]
 ghost use Rattle.io.specs.Counts.{IsPrefixLen};
 
 use libc::STDOUT_FILENO;

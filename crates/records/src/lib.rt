@@ -1,10 +1,11 @@
 // One record of a table: its columns as numbers, and whether it is one that the table of kinds shows (answers 2 and 3).
+#![tactic(auto)]
 ghost use Rattle.std.specs.Prelude.{◌≡◌, not, ◌&&◌, ◌||◌, ltb, eqb, get_or};
 ghost use Rattle.meaning.specs.Table.{table};
 ghost use Rattle.records.specs.Record.{Reads, kind_rows, interval_of, fault_of};
 
 // The columns of a record: byte 0, byte 1, byte 2, byte 3, bytes 4-5, bytes 6-7.
-#[derive(Drop)]
+#[derive(Clone, Copy)]
 pub struct Rec {
     pub kind: u8,
     pub one: u8,

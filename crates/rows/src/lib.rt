@@ -1,4 +1,5 @@
 // The rows that a table is read into, by name, and which places and transitions it declares.
+#![tactic(auto)]
 ghost use Rattle.std.specs.Prelude.{◌||◌, ◌≡◌, ℕ, ◌<◌, eqb};
 ghost use Rattle.meaning.specs.Bytes.{bit};
 ghost use Rattle.meaning.specs.Table.{table};
@@ -41,7 +42,7 @@ pub const WEIGHT: usize = 1;
 pub const NEXT: usize = 2;
 
 // The declared places, 0 to 63 and 64 to 127, and the declared transitions.
-#[derive(Drop)]
+#[derive(Clone, Copy)]
 pub struct Declared {
     pub low: u64,
     pub high: u64,

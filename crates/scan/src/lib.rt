@@ -1,4 +1,5 @@
 // A table read into rows in one pass over its records, each tested for 2, 3 and 4 on the way.
+#![tactic(auto)]
 ghost use Rattle.std.specs.Prelude.{true, false, cond, ◌≡◌, suc, ◌+◌, ◌*◌, ◌≤◌, ◌<◌, eqb, length, get_or};
 ghost use Rattle.meaning.specs.Bytes.{bit};
 ghost use Rattle.meaning.specs.Table.{table};
@@ -124,7 +125,7 @@ fn row_of(kind: u8) -> usize
 }
 
 // What becomes of one record: did an earlier one say the same, and what is declared after it.
-#[derive(Drop)]
+#[derive(Clone, Copy)]
 struct Step {
     again: bool,
     known: Declared,
@@ -180,7 +181,7 @@ fn keep(
 
 // What the pass finds: at the first record that meets 2, 3 or 4 its number, else number 0 and at the number of records;
 // and what is declared.
-#[derive(Drop)]
+#[derive(Clone, Copy)]
 pub struct Pass {
     pub number: u8,
     pub at: usize,

@@ -1,5 +1,6 @@
 // The program: reads net.bin and words.bin in the current directory, starts the net, runs it, and prints a line for
 // each finished cycle and the end line.
+#![tactic(auto)]
 use libc::STDOUT_FILENO;
 
 // A blank and one of the three sets of a cycle's record, as 16 hex digits.

@@ -1,5 +1,6 @@
 // The program that shows what a run leaves: reads net.bin and words.bin in the current directory as the sequencer does,
 // and prints the state image of the fresh net and after each finished cycle, then the sequencer's end line.
+#![tactic(auto)]
 use libc::STDOUT_FILENO;
 
 // A blank and eight bytes of the image, as a number of 16 hex digits.

@@ -1,6 +1,7 @@
 // The program that makes one call of run as a station makes it: reads net.bin, words.bin and image.bin in the current
 // directory, runs the net on the words from that image, leaves report.bin and image.bin, and prints the sequencer's end
 // line. Where there is no image the net is started.
+#![tactic(auto)]
 
 // Does this answer of run leave an image and the records of its finished cycles?
 fn leaves(number: usize) -> bool {

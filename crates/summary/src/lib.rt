@@ -1,5 +1,6 @@
 // A count for the day: what fired over the cycles of a report, two summaries added, and what that changed at each
 // place. Each call has its answer table in docs/ENGINE.md.
+#![tactic(auto)]
 ghost use Rattle.std.specs.Prelude.{◌≡◌, ◌&&◌, not, ℕ, ◌+◌, ◌/◌, ◌≤◌, ◌<◌, eqb, length, get_or};
 ghost use Rattle.meaning.specs.Below.{first};
 ghost use Rattle.meaning.specs.Bytes.{bit};
@@ -12,7 +13,7 @@ ghost use Rattle.summary.specs.Parts.{said, told, strange_by, Ticks, Ticked};
 mod arcs; // arcs.rt: what the arcs move
 
 // A summary: answer number and where, the cycles and how often each transition fired. A refusal's counts are all 0.
-#[derive(Drop)]
+#[derive(Clone, Copy)]
 pub struct Summary {
     pub number: usize,
     pub at: usize,
@@ -20,7 +21,7 @@ pub struct Summary {
 }
 
 // A net change: answer number and where, and a signed number for each place. A refusal's are all 0.
-#[derive(Drop)]
+#[derive(Clone, Copy)]
 pub struct Change {
     pub number: usize,
     pub at: usize,

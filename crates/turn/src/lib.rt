@@ -1,9 +1,10 @@
 // One cycle over the rows of an accepted table: the falling edge, then the rising edge.
+#![tactic(auto)]
 ghost use Rattle.turn.specs.Turn.{StepAsks, Steps};
 
 // What the cycles ask of a net beside its rows: how many eights its numbers fill, the declared transitions, those that
 // are timed, those with conditions, and those with rivals.
-#[derive(Drop)]
+#[derive(Clone, Copy)]
 pub struct Net {
     pub eights: usize,
     pub known: u64,
@@ -14,7 +15,7 @@ pub struct Net {
 
 // What a cycle comes to: the three sets of its record, the lowest full place (128 if none), and the reset orders after
 // it.
-#[derive(Drop)]
+#[derive(Clone, Copy)]
 pub struct Outcome {
     pub fired: u64,
     pub actions: u64,
