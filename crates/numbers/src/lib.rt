@@ -1,6 +1,7 @@
 // Numbers of more bytes: a narrow one made wide, and little-endian ones in lent bytes, read and stored, the lowest byte
 // first.
 #![tactic(auto)]
+
 ghost use Rattle.std.specs.Prelude.{◌++◌, ◌≡◌, ◌+◌, ◌*◌, ◌/◌, ◌%◌, ◌≤◌, length, get_or, take, drop, set};
 ghost use Rattle.meaning.specs.Bytes.{number, bytes};
 

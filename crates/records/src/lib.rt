@@ -1,5 +1,6 @@
 // One record of a table: its columns as numbers, and whether it is one that the table of kinds shows (answers 2 and 3).
 #![tactic(auto)]
+
 ghost use Rattle.std.specs.Prelude.{◌≡◌, not, ◌&&◌, ◌||◌, ltb, eqb, get_or};
 ghost use Rattle.meaning.specs.Table.{table};
 ghost use Rattle.records.specs.Record.{Reads, kind_rows, interval_of, fault_of};

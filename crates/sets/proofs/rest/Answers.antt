@@ -5,15 +5,13 @@ use Prim.Native.Nat.{ℕ, zero, suc, ◌-◌, ◌/◌, ◌%◌, ◌≤◌, ◌<�
 use native.Mathlib.Omega.{arith}
 use lib.Dec.{eqb, eqb-zero-suc, eqb-suc-suc}
 use lib.Pow.{pow_pos}
-use borrow.Author.Rules.{rules}
 use borrow.Author.Tests.{eqb-true, eqb-false, ne_eqb, not-false}
 use Rattle.meaning.specs.Below.{some, first}
 use Rattle.meaning.specs.Bytes.{bit}
 use Rattle.meaning.proofs.Below.{first_before, first_passes, some_elim}
 use Rattle.meaning.proofs.Bool.{not_both}
 use Rattle.sets.proofs.Bits.{bit_low, bit_high, bit-and, bit_zero, bit_least, zero_set}
-use Rattle.sets.proofs.rest.Statement.{statement}
-use Rattle.sets.proofs.rest.Tie as tie
+use Rattle.sets.proofs.rest.Goals as goal
 
 twice : (b : Bool) → (b && b) ≡ (b && true)
 twice true = refl
@@ -36,18 +34,15 @@ less_one (suc k) a (suc j) e low =
     rw (bit_high (a - 1) j, half, bit_high a j, eqb-suc-suc k j)
     (less_one k (a / 2) j (sym (bit_high a k) ∙ e) (λ i h. sym (bit_high a i) ∙ low (suc i) (omega arith)))
 
-returns : tie.Need-returns
-returns c j = rw (c.if1.true, bit_zero j)
+pub returns-then-s-eq0 : goal.returns-then-s-eq0
+returns-then-s-eq0 c j = rw (c.if-s-eq0.true, bit_zero j)
 
-returns_2 : tie.Need-returns-2
-returns_2 c j =
-    let s : ℕ = c.before.args.s in
+pub returns-else-s-eq0 : goal.returns-else-s-eq0
+returns-else-s-eq0 c j =
+    let s : ℕ = c.args.s in
     let w =
     some_elim 64 (bit s) (not-false (some 64 (bit s))
-    (sym (zero_set s (omega arith)) ∙ ne_eqb s 0 c.if1.false)) in
+    (sym (zero_set s (omega arith)) ∙ ne_eqb s 0 c.if-s-eq0.false)) in
     let above : ¬ (w.0 < first 64 (bit s)) = λ l. not_both w.2 (first_before 64 (bit s) w.0 l) in
     bit-and s (s - 1) j
     ∙ less_one (first 64 (bit s)) s j (first_passes 64 (bit s) (omega (arith, w.1))) (first_before 64 (bit s))
-
-pub rest_spec : {M : Type 1} → statement M
-rest_spec = tie.close (tie.spec (λ c. search rules) returns returns_2)

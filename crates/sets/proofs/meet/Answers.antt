@@ -8,16 +8,12 @@ use Rattle.meaning.specs.Below.{some}
 use Rattle.meaning.specs.Bytes.{bit}
 use Rattle.meaning.proofs.Below.{some_same}
 use Rattle.sets.proofs.Bits.{bit-and, zero_set}
-use Rattle.sets.proofs.meet.Statement.{statement}
-use Rattle.sets.proofs.meet.Tie as tie
+use Rattle.sets.proofs.meet.Goals as goal
 
-returns : tie.Need-returns
+pub returns : goal.returns
 returns c =
     let s : ℕ = c.args.s in
     let t : ℕ = c.args.t in
     ap not (zero_set (bit_and s t) (and_lt 64 s t (omega arith) (omega arith)))
     ∙ not-not (some 64 (bit (bit_and s t)))
     ∙ some_same 64 (bit (bit_and s t)) (λ k. bit s k && bit t k) (λ k l. bit-and s t k)
-
-pub meet_spec : {M : Type 1} → statement M
-meet_spec = tie.close (tie.spec returns)

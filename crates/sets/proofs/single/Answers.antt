@@ -3,12 +3,7 @@ use mathlib.Core.Path.{ap, ◌∙◌}
 use Prim.Native.Nat.{ℕ}
 use Rattle.meaning.specs.Bytes.{bit}
 use Rattle.sets.proofs.Bits.{bit_one, one_shifted}
-use borrow.Author.Rules.{rules}
-use Rattle.sets.proofs.single.Statement.{statement}
-use Rattle.sets.proofs.single.Tie as tie
+use Rattle.sets.proofs.single.Goals as goal
 
-returns : tie.Need-returns
+pub returns : goal.returns
 returns c j = ap (λ (x : ℕ). bit x j) (one_shifted c.args.k c.requires) ∙ bit_one c.args.k j
-
-pub single_spec : {M : Type 1} → statement M
-single_spec = tie.close (tie.spec (λ c. search rules) returns)
