@@ -1,5 +1,6 @@
 // A state image: whether it fits a table (answer 10), read into arrays, written from them, and that of a fresh net.
 #![tactic(auto)]
+
 ghost use Rattle.std.specs.Prelude.{true, ◌≡◌, ◌+◌, ◌*◌, ◌≤◌, ◌<◌, length, get_or, set, replicate};
 ghost use Rattle.meaning.specs.Answer.{accepted};
 ghost use Rattle.meaning.specs.Below.{first};
