@@ -1,6 +1,7 @@
 // The two edges of a cycle: the counters after the falling edge, and the set of the transitions that are firable at
 // the rising edge.
 #![tactic(auto)]
+
 ghost use Rattle.std.specs.Prelude.{true, ◌≡◌, ℕ, ◌<◌, length};
 ghost use Rattle.meaning.specs.Bytes.{bit};
 ghost use Rattle.edge.specs.Edges.{raised, in_span, as_asked, Raises, Ready, FirableAsks, Able};

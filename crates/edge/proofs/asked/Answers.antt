@@ -12,8 +12,7 @@ use Rattle.meaning.proofs.Bool.{same_test}
 use Rattle.meaning.proofs.Below.{none_intro, none_elim}
 use Rattle.sets.proofs.Bits.{bit-and, same_set}
 use Rattle.edge.specs.Edges.{as_asked}
-use Rattle.edge.proofs.asked.Statement.{statement}
-use Rattle.edge.proofs.asked.Tie as tie
+use Rattle.edge.proofs.asked.Goals as goal
 
 -- As wanted: what is looked at and in the word is what is wanted true.
 wanted_in : (looks wanted word : ℕ) → looks < 2 ^ 64 → wanted < 2 ^ 64 → word < 2 ^ 64
@@ -48,9 +47,6 @@ wanted_in looks wanted word hl ht hw looked =
     both false w true f e = f refl
     both false w false f e = refl
 
-returns : tie.Need-returns
+pub returns : goal.returns
 returns c =
     wanted_in c.args.looks c.args.wanted c.args.word (omega arith) (omega arith) (omega arith) c.requires
-
-pub asked_spec : {M : Type 1} → statement M
-asked_spec = tie.close (tie.spec returns)
