@@ -23,7 +23,8 @@ met {rows} g t u h l =
     ∙ sym (some_split 64 64 (λ p. bit (inputs rows p) t && bit (takers rows p) u))
 
 -- Where the places of two transitions have stayed, they meet as before.
-pub meeting_stays : (arcs before : List ℕ) → ((t c : ℕ) → c < 4 → get_or arcs (5 * t + c) 0 ≡ get_or before (5 * t + c) 0)
+pub meeting_stays : (arcs before : List ℕ)
+    → ((t c : ℕ) → c < 4 → get_or arcs (5 * t + c) 0 ≡ get_or before (5 * t + c) 0)
     → (t u : ℕ)
     → meeting arcs t u ≡ meeting before t u
 unfolding meeting

@@ -23,7 +23,8 @@ module _ (arcs : List ℕ) (m k v : ℕ) (few : k < 5) (there : 5 * m + k < leng
       other apart = ap (λ (x : ℕ). bit x j) (get_or-set_other arcs (5 * m + k) (5 * t + c) v 0 apart) ∙ sym (or-false _)
 
       go : (x y : Bool) → eqb c k ≡ x → eqb m t ≡ y
-          → bit (get_or (set arcs (5 * m + k) v) (5 * t + c) 0) j ≡ (bit (get_or arcs (5 * t + c) 0) j || ((x && y) && w j))
+          → bit (get_or (set arcs (5 * m + k) v) (5 * t + c) 0) j
+          ≡ (bit (get_or arcs (5 * t + c) 0) j || ((x && y) && w j))
       go true true x y = rw (eqb-true c k x, ← eqb-true m t y, get_or-set_same arcs (5 * m + k) v 0 there) (gains j)
       go true false x y =
           let apart : ¬ (m ≡ t) = eqb-false m t y in

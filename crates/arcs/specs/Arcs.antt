@@ -24,7 +24,8 @@ rivals_of arcs t = get_or arcs (5 * t + 4) 0
 pub record Put (arcs : List ℕ) (to k what : ℕ) (after : List ℕ) : Type 0 where
   pub size : length after ≡ 320
   pub holds : (t c j : ℕ) → c < 5
-      → bit (get_or after (5 * t + c) 0) j ≡ (bit (get_or arcs (5 * t + c) 0) j || ((eqb c k && bit to t) && bit what j))
+      → bit (get_or after (5 * t + c) 0) j
+      ≡ (bit (get_or arcs (5 * t + c) 0) j || ((eqb c k && bit to t) && bit what j))
 
 -- Places from n on have no input arcs.
 pub record ArclessFrom (n : ℕ) (rows : List ℕ) : Type 0 where

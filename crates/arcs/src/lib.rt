@@ -1,6 +1,7 @@
 // The rows turned: of each transition the places of its input arcs and of its basic arcs, and its rivals, who alone
 // can take what it asks for.
 #![tactic(auto)]
+
 ghost use Rattle.std.specs.Prelude.{◌||◌, ◌≡◌, ◌<◌, length, replicate};
 ghost use Rattle.arcs.specs.Arcs.{Put, ArclessFrom, Turned, shared, meeting, LowPairs, Rivals};
 

@@ -9,10 +9,9 @@ use Rattle.meaning.specs.Bytes.{bit}
 use Rattle.meaning.proofs.Below.{some_same}
 use Rattle.sets.proofs.Bits.{bit-and, bit-or, zero_set}
 use Rattle.sets.proofs.Some.{some_or}
-use Rattle.arcs.proofs.common.Statement.{statement}
-use Rattle.arcs.proofs.common.Tie as tie
+use Rattle.arcs.proofs.common.Goals as goal
 
-returns : tie.Need-returns
+pub returns : goal.returns
 returns x =
     let a : ℕ = x.args.a in
     let b : ℕ = x.args.b in
@@ -27,6 +26,3 @@ returns x =
     ∙ some_same 64 (bit all) (λ k. (bit a k && bit b k) || (bit c k && bit d k))
     (λ k l. bit-or (bit_and a b) (bit_and c d) k ∙ ap₂ (λ (x y : Bool). x || y) (bit-and a b k) (bit-and c d k))
     ∙ sym (some_or 64 (λ k. bit a k && bit b k) (λ k. bit c k && bit d k))
-
-pub common_spec : {M : Type 1} → statement M
-common_spec = tie.close (tie.spec returns)
