@@ -56,8 +56,8 @@ module _ (posts : List ℕ) (r a b c : ℕ) (there : 3 * r + 3 ≤ length posts)
     where
       own : (i : ℕ) → i < 3 → get_or (with_entry posts r a b c) (3 * r + i) 0 ≡ get_or (a ∷ b ∷ c ∷ []) i 0
       own i l =
-          up_to_2 (λ i. get_or (with_entry posts r a b c) (3 * r + i) 0 ≡ get_or (a ∷ b ∷ c ∷ []) i 0) own_first own_second
-          own_third i (omega (arith, l))
+          up_to_2 (λ i. get_or (with_entry posts r a b c) (3 * r + i) 0 ≡ get_or (a ∷ b ∷ c ∷ []) i 0) own_first
+          own_second own_third i (omega (arith, l))
 
       go : (x : Bool) → eqb r k ≡ x → get_or (with_entry posts r a b c) (3 * k + j) 0
           ≡ cond x (get_or (a ∷ b ∷ c ∷ []) j 0) (get_or posts (3 * k + j) 0)

@@ -6,15 +6,13 @@ use Prim.Native.Nat.{ℕ, ◌<◌}
 use lib.Dec.{eqb}
 use lib.ListN.{length, get_or, set, length-set}
 use lib.Seq.{get_or-set_same, get_or-set_other}
-use borrow.Author.Rules.{rules}
 use borrow.Author.Tests.{eqb-true, eqb-false, eq-eqb}
 use Rattle.meaning.specs.Below.{some}
 use Rattle.meaning.specs.Bytes.{bit}
 use Rattle.meaning.proofs.Bool.{and_left, and_right, and_true, same_test}
 use Rattle.meaning.proofs.Below.{some_intro, some_elim}
 use Rattle.scan.specs.Scan.{Entered}
-use Rattle.scan.proofs.enter.Statement.{statement}
-use Rattle.scan.proofs.enter.Tie as tie
+use Rattle.scan.proofs.enter.Goals as goal
 
 -- Whoever is alone in a set meets a row exactly if the row has it.
 met : (line alone y : ℕ) → y < 64 → ((j : ℕ) → bit alone j ≡ eqb y j)
@@ -50,30 +48,21 @@ gets rows q y line there gains = record { size = length-set rows q line; holds =
         ∙ sym (or-false (bit (get_or rows k 0) j))
 
 -- What meeting says of the bit.
-bit_there : (c : tie.After-meet)
-    → let start = c.before.before.before.before in
-    c.meet.result ≡ bit (get_or start.args.rows.now start.args.q 0) start.args.y
-bit_there c =
-    c.meet.ensures
-    ∙ met _ c.before.before.single.result _ c.before.before.before.before.requires.1
-    c.before.before.single.ensures
+pub returns-then-meet : goal.returns-then-meet
+returns-then-meet c =
+    let bit_there =
+    c.meet.ensures ∙ met _ c.single-alone.result _ c.requires.1 c.single-alone.ensures in
+    record {
+      value = sym c.if-meet.true ∙ bit_there;
+      entered = had _ _ _ (sym bit_there ∙ c.if-meet.true);
+    }
 
-returns : tie.Need-returns
+pub returns : goal.returns
 returns c =
-    let there = sym (bit_there c.before) ∙ c.if1.true in
-    (sym c.if1.true ∙ bit_there c.before, had _ _ _ there)
-
-returns_2 : tie.Need-returns-2
-returns_2 c =
-    let start = c.before.before.before.before.before.before in (
-      sym c.before.if1.false ∙ bit_there c.before.before,
-      gets _ _ _ c.union.result start.requires.0 (λ j. c.union.ensures j
-          ∙ rw (c.before.before.before.before.single.ensures j)),
-    )
-
-pub enter_spec : {M : Type 1} → statement M
-enter_spec =
-    tie.close
-    (tie.spec (λ c κs. search rules) (λ c. search rules) (λ c. search rules) (λ c κs. search rules) returns
-    (λ c κs. search rules)
-    (λ c. search rules) (λ c. search rules) (λ c. search rules) returns_2)
+    record {
+      value =
+          sym c.if-meet.false ∙ c.meet.ensures
+          ∙ met _ c.single-alone.result _ c.requires.1 c.single-alone.ensures;
+      entered =
+          gets _ _ _ c.union.result c.requires.0 (λ j. c.union.ensures j ∙ rw (c.single-alone.ensures j));
+    }
