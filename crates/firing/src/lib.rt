@@ -1,6 +1,7 @@
 // The fired set (definition 6): firable transitions are decided once all their rivals are, each against what the
 // fired ones among them leave.
 #![tactic(auto)]
+
 ghost use Rattle.std.specs.Prelude.{cond, ◌≡◌, ◌-◌, ◌≤◌, ◌<◌, get_or};
 ghost use Rattle.meaning.specs.Below.{sum};
 ghost use Rattle.meaning.specs.Bytes.{bit};

@@ -1,0 +1,17 @@
+use mathlib.Core.Bool.{Bool, not, ◌&&◌}
+use mathlib.Core.List.{List}
+use Prim.Native.Nat.{ℕ}
+use Rattle.firing.specs.Fired.{keeps, waits_for}
+use Rattle.firing.proofs.Rounds.{Walked}
+use Rattle.firing.proofs.one_round.Given as goal
+
+-- Transition t waits for none of those left, and its rivals in `out` leave it enabled.
+abbrev pub fires_now : ℕ → ℕ → List ℕ → List ℕ → List ℕ → List (List ℕ) → List (List ℕ) → ℕ → Bool
+fires_now left out m rows arcs w s t = not (waits_for arcs left t) && keeps m rows arcs w s out t
+
+abbrev pub invariant-loop-todo : goal.invariant-loop-todo
+invariant-loop-todo l =
+    Walked l.left l.out (waits_for l.arcs l.left) (fires_now l.left l.out l.tokens l.rows l.arcs l.w l.s) l.todo l.keep l.more
+
+abbrev pub decreases-loop-todo : goal.decreases-loop-todo
+decreases-loop-todo l = l.todo
