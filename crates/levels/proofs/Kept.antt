@@ -27,7 +27,8 @@ module _ (kept : List ℕ) (p held active lacks : ℕ) (place : p < 128) (size :
       ∙ get_or-set_same (set kept p held) (128 + p) active 0 (simp length-set (omega arith))
 
   pub three_lacks : get_or (three kept p held active lacks) (256 + p) 0 ≡ lacks
-  three_lacks = get_or-set_same (set (set kept p held) (128 + p) active) (256 + p) lacks 0 (simp length-set (omega arith))
+  three_lacks =
+      get_or-set_same (set (set kept p held) (128 + p) active) (256 + p) lacks 0 (simp length-set (omega arith))
 
   -- Any other row is as it was.
   pub three_other : (k : ℕ) → ¬ (k ≡ p) → ¬ (k ≡ 128 + p) → ¬ (k ≡ 256 + p)

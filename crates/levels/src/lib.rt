@@ -2,6 +2,7 @@
 // there, kept place by place. What is kept holds for every number of tokens on a level, and is made anew only when a
 // place leaves its level.
 #![tactic(auto)]
+
 ghost use Rattle.std.specs.Prelude.{◌&&◌, ◌≡◌, ℕ, ◌+◌, ◌*◌, ◌≤◌, ◌<◌, get_or};
 ghost use Rattle.meaning.specs.Below.{some};
 ghost use Rattle.meaning.specs.Bytes.{bit};
