@@ -41,7 +41,8 @@ given_arc posts at k p e h =
 -- One more arc is put: what is put and what is still to be put at each place stays the same.
 pub one_given : (posts put : List ℕ) (at k : ℕ) (weight : ℕ) → at ≡ suc k → next_of posts k ≤ k
     → place_of posts k < length put → weight ≡ weight_of posts k → (p : ℕ)
-    → get_or (set put (place_of posts k) (get_or put (place_of posts k) 0 + weight)) p 0 + given posts (next_of posts k) p
+    → get_or (set put (place_of posts k) (get_or put (place_of posts k) 0 + weight)) p 0
+    + given posts (next_of posts k) p
     ≡ get_or put p 0 + given posts at p
 one_given posts put at k weight e down there is p = go (eqb (place_of posts k) p) refl
   where

@@ -21,7 +21,8 @@ row_on f g rows p v l before e q = go (eqb p q) refl
     go true same = rw (← eqb-true p q same, lt-ltb p (p + 1) (omega arith)) (get_or-set_same rows p v 0 l ∙ e)
     go false other =
         let apart : ¬ (p ≡ q) = eqb-false p q other in
-        get_or-set_other rows p q v 0 (λ z. apart (sym z)) ∙ before q ∙ ap (λ (b : Bool). cond b (f q) (g q)) (next apart)
+        get_or-set_other rows p q v 0 (λ z. apart (sym z)) ∙ before q
+        ∙ ap (λ (b : Bool). cond b (f q) (g q)) (next apart)
       where
         next : ¬ (p ≡ q) → ltb q p ≡ ltb q (p + 1)
         next apart = below (ltb q p) refl

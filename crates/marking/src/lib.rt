@@ -1,6 +1,7 @@
 // What firing does to the marking: what the fired transitions take and put at each place, and the marking after it,
 // with what is kept of each place made anew where the place left its level.
 #![tactic(auto)]
+
 ghost use Rattle.std.specs.Prelude.{cond, ◌||◌, ◌≡◌, ℕ, ◌≤◌, ◌<◌, ltb, get_or};
 ghost use Rattle.meaning.specs.Below.{first};
 ghost use Rattle.marking.specs.Moves.{TakeAsks, Took, GiveAsks, Gave, TallyAsks, Tallied};

@@ -2,15 +2,11 @@
 use Prim.Native.Nat.{ℕ, ◌≤◌}
 use native.Mathlib.Omega.{arith}
 use lib.Bits.{bit_or, or_add_and, or_comm, and_le_l}
-use Rattle.marking.proofs.together.Statement.{statement}
-use Rattle.marking.proofs.together.Tie as tie
+use Rattle.marking.proofs.together.Goals as goal
 
 second : (a b : ℕ) → b ≤ bit_or a b
 second a b = omega (arith, or_add_and a b, and_le_l a b)
 
-returns : tie.Need-returns
+pub returns : goal.returns
 returns c =
     (rw (or_comm c.args.x c.args.y) (second c.args.y c.args.x), second c.args.x c.args.y)
-
-pub together_spec : {M : Type 1} → statement M
-together_spec = tie.close (tie.spec returns)
