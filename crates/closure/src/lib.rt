@@ -1,5 +1,6 @@
 // The priorities closed within the rows: each transition gets all who stand below it, by a chain of written pairs.
 #![tactic(auto)]
+
 ghost use Rattle.std.specs.Prelude.{◌≡◌};
 ghost use Rattle.meaning.specs.Below.{first};
 ghost use Rattle.meaning.specs.Bytes.{bit};

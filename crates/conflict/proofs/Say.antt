@@ -92,7 +92,8 @@ module _ {tb : Table} {n : ℕ} {rows : List ℕ} {w s : List (List ℕ)} {heads
 
       here : first 64 (in_unsettled tb) ≡ k / 64
       here =
-          first_is 64 (in_unsettled tb) (k / 64) (omega arith) (one_unsettled (k / 64) (k % 64) (omega arith) first_unsettled)
+          first_is 64 (in_unsettled tb) (k / 64) (omega arith)
+          (one_unsettled (k / 64) (k % 64) (omega arith) first_unsettled)
           (λ i l. none_unsettled i (omega arith) (omega arith))
 
       there : first 64 (unsettled tb (k / 64)) ≡ k % 64

@@ -1,5 +1,6 @@
 // The transitions in conflict, and the least pair of them that nothing settles (answer 9).
 #![tactic(auto)]
+
 ghost use Rattle.std.specs.Prelude.{◌≡◌, ◌+◌, ◌*◌, ◌≤◌, ◌<◌, length, get_or, replicate};
 ghost use Rattle.meaning.specs.Below.{some, first};
 ghost use Rattle.conflict.specs.Pairs.{PairedUp, TakerlessFrom, Conflicts};
@@ -116,8 +117,7 @@ fn later(pairs: &[u64; 64], i: usize) -> u64
 // it.
 pub fn least(pairs: &[u64; 64], rows: &[u64], w: &[[u16; 64]], s: &[[u8; 64]], n: usize) -> usize
     requires { LeastAsks n pairs.now rows.now w.now s.now }
-    ensures { result ≡ first 4096 (unsettled_by pairs.now rows.now w.now
-        s.now n) }
+    ensures { result ≡ first 4096 (unsettled_by pairs.now rows.now w.now s.now n) }
 {
     let mut found = 4096;
     'search: for i in 0..rows::transitions(n) {

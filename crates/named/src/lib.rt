@@ -1,6 +1,7 @@
 // Whom the records name: a place or a transition that is not declared (answer 5), and one that is declared without an
 // arc (answer 7).
 #![tactic(auto)]
+
 ghost use Rattle.std.specs.Prelude.{not, ◌&&◌, ◌||◌, ◌≡◌, ℕ, ◌*◌, ◌≤◌, ◌<◌, eqb, length};
 ghost use Rattle.meaning.specs.Below.{some, first};
 ghost use Rattle.meaning.specs.Bytes.{bit};

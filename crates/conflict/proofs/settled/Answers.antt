@@ -3,14 +3,12 @@ use mathlib.Core.Bool.{Bool, true, false, ◌||◌}
 use mathlib.Core.List.{List}
 use mathlib.Core.Path.{◌≡◌, sym, ◌∙◌}
 use Prim.Native.Nat.{ℕ}
-use borrow.Author.Rules.{rules}
 use Rattle.meaning.specs.Below.{some}
 use Rattle.meaning.specs.Bytes.{bit}
 use Rattle.meaning.proofs.Bool.{or_true_left, or_true_right}
 use Rattle.rows.specs.Rows.{below}
 use Rattle.conflict.specs.Settled.{crossed_in, apart_in, settled_in}
-use Rattle.conflict.proofs.settled.Statement.{statement}
-use Rattle.conflict.proofs.settled.Tie as tie
+use Rattle.conflict.proofs.settled.Goals as goal
 
 -- The first of the four that holds settles it; where the first three do not, the fourth says it.
 module _ (rows : List ℕ) (w s : List (List ℕ)) (n i j : ℕ) where
@@ -32,27 +30,20 @@ module _ (rows : List ℕ) (w s : List (List ℕ)) (n i j : ℕ) where
   unfolding settled_in
   by_fourth e q f x g y h = rw (sym e ∙ q, sym f ∙ x, sym g ∙ y) h
 
-returns : tie.Need-returns
-returns c = by_first _ _ _ _ _ _ c.before.has.ensures c.if1.true
+pub returns-then-has : goal.returns-then-has
+returns-then-has c = by_first _ _ _ _ _ _ c.has.ensures c.if-has.true
 
-returns_2 : tie.Need-returns-2
-returns_2 c = by_second _ _ _ _ _ _ c.before.has2.ensures c.if2.true
+pub returns-then-has-2 : goal.returns-then-has-2
+returns-then-has-2 c = by_second _ _ _ _ _ _ c.has-2.ensures c.if-has-2.true
 
-returns_3 : tie.Need-returns-3
-returns_3 c = by_third _ _ _ _ _ _ c.before.crossed.ensures c.if3.true
+pub returns-then-crossed : goal.returns-then-crossed
+returns-then-crossed c = by_third _ _ _ _ _ _ c.crossed.ensures c.if-crossed.true
 
-returns_4 : tie.Need-returns-4
-returns_4 c =
-    let third = c.before in
-    let second = third.before.before in
-    let first = second.before.before.before in
-    by_fourth _ _ _ _ _ _ first.before.has.ensures first.if1.false second.before.has2.ensures
-    second.if2.false
-    third.before.crossed.ensures third.if3.false c.apart.ensures
-
-pub settled_spec : {M : Type 1} → statement M
-settled_spec =
-    tie.close
-    (tie.spec (λ c. search rules) (λ c. search rules) (λ c. search rules) (λ c. search rules) (λ c κs. search rules)
-    returns (λ c. search rules) (λ c. search rules) (λ c. search rules) (λ c. search rules) (λ c κs. search rules)
-    returns_2 (λ c κs. search rules) returns_3 (λ c κs. search rules) returns_4)
+pub returns : goal.returns
+returns c =
+    let third = c in
+    let second = third in
+    let first = second in
+    by_fourth _ _ _ _ _ _ first.has.ensures first.if-has.false second.has-2.ensures
+    second.if-has-2.false
+    third.crossed.ensures third.if-crossed.false c.apart.ensures

@@ -4,14 +4,12 @@ use mathlib.Core.Bool.{Bool, true, false, not, ◌&&◌}
 use mathlib.Core.List.{List}
 use mathlib.Core.Path.{◌≡◌, sym, ◌∙◌}
 use Prim.Native.Nat.{ℕ}
-use borrow.Author.Rules.{rules}
 use Rattle.meaning.specs.Below.{some}
 use Rattle.meaning.specs.Bytes.{bit}
 use Rattle.meaning.proofs.Below.{some_same}
 use Rattle.rows.specs.Rows.{looks, wanted_true}
 use Rattle.conflict.specs.Settled.{wants_false, crossed_in}
-use Rattle.conflict.proofs.crossed.Statement.{statement}
-use Rattle.conflict.proofs.crossed.Tie as tie
+use Rattle.conflict.proofs.crossed.Goals as goal
 
 -- Whether the set a has something in common with d, which is b less c: with the difference first, and with it last.
 met_first : (a b c d : ℕ) {r : Bool} → ((j : ℕ) → bit d j ≡ (bit b j && not (bit c j)))
@@ -35,31 +33,23 @@ module _ (rows : List ℕ) (i j : ℕ) where
   unfolding crossed_in
   by_last e q f = rw (sym e ∙ q) f
 
-returns : tie.Need-returns
-returns c =
-    let a = c.before.before.before.before.before.before.before.args in
+pub returns-then-meet : goal.returns-then-meet
+returns-then-meet c =
+    let a = c.args in
     let rows = a.rows.now in
     by_first rows a.i a.j
     (met_last (wanted_true rows a.i) (looks rows a.j) (wanted_true rows a.j) _
-    c.before.before.less.ensures c.before.meet.ensures)
-    c.if1.true
+    c.less.ensures c.meet.ensures)
+    c.if-meet.true
 
-returns_2 : tie.Need-returns-2
-returns_2 c =
-    let at = c.before.before.before in
-    let a = at.before.before.before.before.before.before.before.args in
+pub returns : goal.returns
+returns c =
+    let at = c in
+    let a = at.args in
     let rows = a.rows.now in
     by_last rows a.i a.j
     (met_last (wanted_true rows a.i) (looks rows a.j) (wanted_true rows a.j) _
-    at.before.before.less.ensures at.before.meet.ensures)
-    at.if1.false
-    (met_first (wanted_true rows a.j) (looks rows a.i) (wanted_true rows a.i) _ c.before.less2.ensures
-    c.meet2.ensures)
-
-pub crossed_spec : {M : Type 1} → statement M
-crossed_spec =
-    tie.close
-    (tie.spec (λ c. search rules) (λ c. search rules) (λ c. search rules) (λ c. search rules) (λ c. search rules)
-    (λ c. search rules) (λ c. search rules) (λ c. search rules) (λ c. search rules) (λ c. search rules)
-    (λ c. search rules) (λ c. search rules) (λ c κs. search rules) (λ c κs. search rules) returns (λ c. search rules)
-    (λ c. search rules) (λ c. search rules) (λ c. search rules) (λ c κs. search rules) (λ c κs. search rules) returns_2)
+    at.less.ensures at.meet.ensures)
+    at.if-meet.false
+    (met_first (wanted_true rows a.j) (looks rows a.i) (wanted_true rows a.i) _ c.less-2.ensures
+    c.meet-2.ensures)

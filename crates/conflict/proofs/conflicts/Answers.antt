@@ -1,38 +1,25 @@
 -- `conflicts`: after p places the rows have each two who take from one of these; from place n on nobody takes.
 use mathlib.Core.Bool.{◌&&◌, and-false}
 use mathlib.Core.Path.{◌≡◌, sym, ap, ◌∙◌}
-use Prim.Native.Nat.{ℕ, ◌*◌, ◌-◌, ◌≤◌, ◌<◌}
+use Prim.Native.Nat.{ℕ}
 use native.Mathlib.Numerals.{add-one}
 use native.Mathlib.Omega.{arith}
 use lib.Dec.{ltb}
-use lib.ListN.{length, get_or, replicate, length-replicate}
-use borrow.Author.Rules.{rules}
+use lib.ListN.{length, replicate, length-replicate}
 use Rattle.meaning.specs.Below.{some}
 use Rattle.meaning.specs.Bytes.{bit}
 use Rattle.sets.proofs.Bits.{bit_zero}
 use Rattle.sets.proofs.Rows.{all_zero}
 use Rattle.rows.specs.Rows.{takers}
-use Rattle.conflict.specs.Pairs.{TakerlessFrom}
 use Rattle.sets.proofs.Some.{some_short}
 use Rattle.conflict.proofs.Takers.{one_place}
-use Rattle.conflict.proofs.conflicts.Statement.{statement}
-use Rattle.conflict.proofs.conflicts.Tie as tie
+use Rattle.conflict.proofs.conflicts.Goals as goal
 
-abbrev invariant_loop : tie.invariant_loop
-invariant_loop rows pairs₀ n p₀ pairs p =
-    (p ≤ n) × TakerlessFrom n rows × (length pairs ≡ 64)
-    × ((i j : ℕ) → i < 64 → j < 64
-    → bit (get_or pairs i 0) j ≡ (ltb i j && some p (λ p. bit (takers rows p) i && bit (takers rows p) j)))
-    × (n ≤ 128) × (8 * n ≤ length rows)
-
-abbrev decreases_loop : tie.decreases_loop
-decreases_loop rows pairs₀ n p₀ pairs p = n - p
-
-loop_holds : tie.Need-loop-init invariant_loop decreases_loop
+pub loop-p-init : goal.loop-p-init
 unfolding some
-loop_holds c =
-    let pre = c.before.requires in
-    let pairs = c.before.args.pairs.now in
+loop-p-init c =
+    let pre = c.requires in
+    let pairs = c.args.pairs.now in
     let size : length pairs ≡ 64 = ap length pre.1 ∙ length-replicate {A = ℕ} 64 0 in (
       omega arith,
       pre.0,
@@ -44,11 +31,11 @@ loop_holds c =
       pre.0.there,
     )
 
-loop_again : tie.Need-loop-preserved invariant_loop decreases_loop
+pub loop-p-preserved : goal.loop-p-preserved
 unfolding some
-loop_again c =
-    let at = c.before.before.before.before.loop in
-    let rows = c.before.before.before.before.before.before.args.rows.now in
+loop-p-preserved c =
+    let at = c.loop-p in
+    let rows = c.args.rows.now in
     let paired = c.pair_up.ensures in (
       omega arith,
       at.invariant.1,
@@ -62,10 +49,10 @@ loop_again c =
       at.invariant.5,
     )
 
-returns : tie.Need-returns invariant_loop decreases_loop
+pub returns : goal.returns
 returns c =
-    let at = c.before.loop in
-    let rows = c.before.before.before.args.rows.now in
+    let at = c.loop-p in
+    let rows = c.args.rows.now in
     record {
       size = at.invariant.2;
       holds = λ i j h l.
@@ -74,9 +61,3 @@ returns c =
           (some_short at.p 128 (λ p. bit (takers rows p) i && bit (takers rows p) j) (omega arith)
           (λ p past m. rw (at.invariant.1.no_taker p i (omega arith) m h)));
     }
-
-pub conflicts_spec : {M : Type 1} → statement M
-conflicts_spec =
-    tie.close
-    (tie.spec invariant_loop decreases_loop loop_holds (λ c. search rules) (λ c. search rules) (λ c. search rules) (λ c. search rules)
-    (λ c κs. search rules) (λ c. search rules) (λ c. search rules) loop_again returns)
