@@ -1,5 +1,6 @@
 // Answers 2 to 9 of a table, one stage after the other, and the rows of one that is accepted.
 #![tactic(auto)]
+
 ghost use Rattle.std.specs.Prelude.{false, ◌≡◌, ◌*◌, ◌≤◌, length};
 ghost use Rattle.meaning.specs.Below.{first};
 ghost use Rattle.meaning.specs.Table.{table};

@@ -1,5 +1,4 @@
 -- Of the two candidates the first that holds: a set that is 0 has nobody, and any other has somebody.
-use borrow.Author.Rules.{rules}
 use mathlib.Core.Bool.{Bool, true, false, not, cond, ◌||◌}
 use mathlib.Core.Logic.{⊎_elim}
 use mathlib.Core.Path.{◌≡◌, refl, sym, ap, ◌∙◌}
@@ -16,8 +15,7 @@ use Rattle.rows.specs.declared.Declared.{Declared}
 use Rattle.rows.specs.Rows.{has}
 use Rattle.rows.proofs.Empty.{has_none, has_some}
 use Rattle.judge.specs.Judged.{none_of}
-use Rattle.judge.proofs.first_none.Statement.{statement}
-use Rattle.judge.proofs.first_none.Tie as tie
+use Rattle.judge.proofs.first_none.Goals as goal
 
 -- A set with all of both halves has somebody exactly if some place is declared.
 some_place : (known : Declared) (u : ℕ) → ((j : ℕ) → bit u j ≡ (bit known.low j || bit known.high j))
@@ -46,14 +44,14 @@ some_place known u both =
         some_intro 64 (bit u) (p - 64) (omega (arith, h, ltb-false p 64 e))
         (both (p - 64) ∙ or_true_right (bit known.low (p - 64)) z)
 
-no_place : tie.Need-returns
+pub returns-then-union-eq0 : goal.returns-then-union-eq0
 unfolding none_of
-no_place c =
-    let known = c.before.before.args.known in
-    let u = c.before.union.result in
-    let none = has_none u (omega arith) c.if1.true in
+returns-then-union-eq0 c =
+    let known = c.args.known in
+    let u = c.union.result in
+    let none = has_none u (omega arith) c.if-union-eq0.true in
     sym
-    (first_is 2 (none_of known) 0 (omega arith) (rw (← some_place known u c.before.union.ensures, none))
+    (first_is 2 (none_of known) 0 (omega arith) (rw (← some_place known u c.union.ensures, none))
     (λ j l. absurd (not-suc-le-zero l)))
 
 -- Some place is declared.
@@ -77,26 +75,22 @@ both_there known e f zero l = e
 both_there known e f (suc zero) l = f
 both_there known e f (suc (suc j)) l = absurd (omega arith)
 
-no_transition : tie.Need-returns-2
-no_transition c =
-    let known = c.before.before.before.before.args.known in
-    let u = c.before.before.before.union.result in
-    let somebody = has_some u (omega arith) c.before.before.if1.false in
-    let there = place_there known u c.before.before.before.union.ensures somebody in
+pub returns-then-known-eq0 : goal.returns-then-known-eq0
+returns-then-known-eq0 c =
+    let known = c.args.known in
+    let u = c.union.result in
+    let there = place_there known u c.union.ensures (has_some u (omega arith) c.if-union-eq0.false) in
     sym
     (first_is 2 (none_of known) 1 (omega arith)
-    (transition_there known false (has_none known.transitions (omega arith) c.if2.true))
+    (transition_there known false (has_none known.transitions (omega arith) c.if-known-eq0.true))
     (only known there))
 
-returns : tie.Need-returns-3
+pub returns : goal.returns
 returns c =
-    let known = c.before.before.before.before.args.known in
-    let u = c.before.before.before.union.result in
-    let somebody = has_some u (omega arith) c.before.before.if1.false in
-    let there = place_there known u c.before.before.before.union.ensures somebody in
+    let known = c.args.known in
+    let u = c.union.result in
+    let there = place_there known u c.union.ensures (has_some u (omega arith) c.if-union-eq0.false) in
     sym
     (first_none 2 (none_of known)
-    (both_there known there (transition_there known true (has_some known.transitions (omega arith) c.if2.false))))
-
-pub first_none_spec : {M : Type 1} → statement M
-first_none_spec = tie.close (tie.spec (λ c κs. search rules) no_place no_transition returns)
+    (both_there known there
+    (transition_there known true (has_some known.transitions (omega arith) c.if-known-eq0.false))))

@@ -1,0 +1,13 @@
+-- The records are asked where the rows show an unknown; where they do not, the answer is the number of records.
+use mathlib.Core.Path.{◌∙◌}
+use Rattle.meaning.specs.Table.{table}
+use Rattle.judge.specs.Judged.{unknown_first}
+use Rattle.judge.proofs.first_unknown.Goals as goal
+
+pub returns-then-any_unknown : goal.returns-then-any_unknown
+unfolding unknown_first
+returns-then-any_unknown c = c.first_unknown.ensures ∙ rw (← c.any_unknown.ensures, c.if-any_unknown.true)
+
+pub returns : goal.returns
+unfolding unknown_first table
+returns c = rw (← c.any_unknown.ensures, c.if-any_unknown.false)
