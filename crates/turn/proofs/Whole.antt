@@ -12,7 +12,7 @@ use Rattle.meaning.specs.Bytes.{bit, bits}
 use Rattle.meaning.specs.Table.{Table, table, total, is, basic, post, transition, ceiling}
 use Rattle.meaning.specs.Image.{State}
 use Rattle.meaning.specs.Cycle.{enabled, active, counted, falling, firable, withdrawn, added, fired, rising, marked}
-use Rattle.meaning.specs.Cycle.{starved, reset, executed, overfull}
+use Rattle.meaning.specs.Cycle.{reset, executed, overfull}
 use Rattle.meaning.proofs.Bool.{and_left, and_right, not_both}
 use Rattle.meaning.proofs.Below.{some_same, first_same, first_before, sum_zero}
 use Rattle.meaning.proofs.Reflect.{not_true_false}
@@ -21,7 +21,7 @@ use Rattle.meaning.proofs.Rows.{transition_decides}
 use Rattle.meaning.proofs.Accepted.{accepted_well}
 use Rattle.meaning.proofs.Demand3.{start_pays}
 use Rattle.sets.proofs.Bits.{bit_under, bit_out, bits_bit, bits_low, same_set}
-use Rattle.rows.specs.Rows.{inputs, takers, actions, functions, cell}
+use Rattle.rows.specs.Rows.{inputs, takers, actions, cell}
 use Rattle.levels.specs.Levels.{Levels}
 use Rattle.firing.specs.Fired.{Fires}
 use Rattle.rows.proofs.Arcs.{accepted_sound, accepted_laid, ranges}

@@ -1,5 +1,6 @@
 // One cycle over the rows of an accepted table: the falling edge, then the rising edge.
 #![tactic(auto)]
+
 ghost use Rattle.turn.specs.Turn.{StepAsks, Steps};
 
 // What the cycles ask of a net beside its rows: how many eights its numbers fill, the declared transitions, those that
