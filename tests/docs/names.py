@@ -11,7 +11,7 @@ import re
 import sys
 
 os.chdir(sys.argv[1])
-NAME = r"[^\W\d][\w′″·-]*"
+NAME = r"[^\W\d][\w'-]*"
 WORDS = set(
     """rt antt u8 u16 u32 u64 usize i32 bool mut requires ensures where now unfolding omega search needs ptr
     net.bin words.bin report.bin image.bin csv raw name help cpu qemu64 O3 c11 must-fail target""".split()
@@ -24,7 +24,7 @@ def read(file):
 
 
 antt, rattle, known = {}, {}, set(WORDS)
-for file in glob.glob("crates/**/*.antt", recursive=True):
+for file in glob.glob("crates/*/[!o]*/**/*.antt", recursive=True):  # what rt keeps in out/ is no source
     text = read(file)
     names = set(re.findall(rf"^\s*(?:(?:abbrev|unfoldable|pub)\s+)*({NAME})\s+:", text, re.M))
     names |= set(re.findall(rf"^\s*(?:pub )?(?:record|data) ({NAME})", text, re.M))
@@ -44,9 +44,9 @@ known |= set(antt) | set(rattle)
 known |= {os.path.basename(edit)[:-5] for edit in glob.glob("crates/*/must-fail/*.edit")}
 known |= set(re.findall(r"\bmk_\w+", read("include/moezelkring.h")))
 for plan in read("crates.txt").split("\n"):
-    known.add(plan.split(":")[0].strip())
+    known |= set(plan.split("#")[0].partition(":")[0].split()[:1])
 for folder, folders, files in os.walk("."):
-    folders[:] = [name for name in folders if name not in (".git", "target")]
+    folders[:] = [name for name in folders if name not in (".git", "target", "out")]
     known |= set(files) | set(folders)
 
 
