@@ -1,4 +1,5 @@
 """names.py REPOSITORY: looks up every name that docs/ and README.md write between backticks, and measures their lines.
+Of docs/PORT.md, the page of what was there before and is gone, it only measures the lines.
 
 A name is a definition, theorem, field or constructor of a file of antt, a function, type, field, constant, parameter or
 local of a file of Rattle, an edit that must fail, a crate, a file or a folder, a verb of mk, or a word of one of the
@@ -92,7 +93,7 @@ for page in pages:
             wrong += 1
         if line.startswith("```"):
             code = not code
-        if code or line.startswith("    "):
+        if code or line.startswith("    ") or page == "docs/PORT.md":  # which names what was there before
             continue
         for span in re.findall(r"`([^`]+)`", line):
             for name in there(span):
@@ -100,4 +101,4 @@ for page in pages:
                 wrong += 1
 if wrong:
     sys.exit(1)
-print(f"docs: every name in {len(pages)} pages is there")
+print(f"docs: every name in {len(pages) - ('docs/PORT.md' in pages)} pages is there")
