@@ -2,24 +2,25 @@
 // and adds them in order, and prints the cycles, how often each transition fired, the net change of each place, and the
 // end line, whose last number is how many reports were counted. A refusal prints the end line alone.
 #![tactic(auto)]
+
 ghost use Rattle.std.specs.Prelude.{◌≡◌, nat_abs};
 
-use libc::STDOUT_FILENO;
+use std::env::FillError;
+use std::io;
+use std::rt::{Env, Files};
 use summary::{Change, Summary};
 
 // A blank and one count.
-fn count(n: u32) {
-    io::write_all(STDOUT_FILENO, b" ");
-    io::print_decimal(STDOUT_FILENO, n as u64);
+fn count(rt: &impl Print, n: u32) -> io::Result<()> {
+    print!(rt; " {n}")
 }
 
 // How often each transition fired; the first of the numbers is the cycles.
-fn fired(counts: &[u32; 65]) {
-    let mut k = 1;
-    while k < 65 {
-        count(counts[k]);
-        k += 1;
+fn fired(rt: &impl Print, counts: &[u32; 65]) -> io::Result<()> {
+    for k in 1..65 {
+        count(rt, counts[k])?;
     }
+    Ok(())
 }
 
 // A number without its sign. Of one below zero it is one more than its bits turned round, also of the least there is.
@@ -30,51 +31,53 @@ fn magnitude(x: i64) -> u64
 }
 
 // A blank and one change, with its sign where it is below zero.
-fn signed(x: i64) {
-    io::write_all(STDOUT_FILENO, b" ");
+fn signed(rt: &impl Print, x: i64) -> io::Result<()> {
+    print!(rt; " ")?;
     if x < 0 {
-        io::write_all(STDOUT_FILENO, b"-");
+        print!(rt; "-")?;
     }
-    io::print_decimal(STDOUT_FILENO, magnitude(x));
+    print!(rt; "{}", magnitude(x))
 }
 
 // The net change of each place.
-fn changes(all: &[i64; 128]) {
-    let mut p = 0;
-    while p < 128 {
-        signed(all[p]);
-        p += 1;
+fn changes(rt: &impl Print, all: &[i64; 128]) -> io::Result<()> {
+    for p in 0..128 {
+        signed(rt, all[p])?;
     }
+    Ok(())
 }
 
 // The three lines of a day.
-fn lines(day: Summary, net: Change) {
+fn lines(rt: &impl Print, day: Summary, net: Change) -> io::Result<()> {
     let counts = day.counts;
     let all = net.change;
-    io::write_all(STDOUT_FILENO, b"cycles");
-    count(counts[0]);
-    io::write_all(STDOUT_FILENO, b"\nfired");
-    fired(&counts);
-    io::write_all(STDOUT_FILENO, b"\nchange");
-    changes(&all);
-    io::write_all(STDOUT_FILENO, b"\n");
+    print!(rt; "cycles")?;
+    count(rt, counts[0])?;
+    print!(rt; "\nfired")?;
+    fired(rt, &counts)?;
+    print!(rt; "\nchange")?;
+    changes(rt, &all)?;
+    println!(rt)
 }
 
 // What a day comes to, with the net change, which a refused table has not.
-fn tell(t: &[u8], day: Summary, reports: usize) {
+fn tell(rt: &impl Print, t: &[u8], day: Summary, reports: usize) -> io::Result<()> {
     let net = summary::net_change(t, &day.counts);
     if net.number == 0 {
-        lines(day, net);
+        lines(rt, day, net)?;
     }
-    programs::end(net.number, net.at, reports);
+    programs::end(rt, net.number, net.at, reports)
 }
 
 // The day so far with the report that argument k names: counted, and added.
-fn with(t: &[u8], day: Summary, k: usize) -> Summary {
-    let mut name = io::buffer();
+fn with(rt: &(impl Env + Files), t: &[u8], day: Summary, k: usize) -> Summary {
+    let mut name = [0u8; 4096];
     let mut report = [0u8; 12312];
-    let n = os::arg(k, &mut name);
-    let m = programs::read(&name[..n], &mut report);
+    let n = match rt.arg(k, &mut name) {
+        Ok(n) => n,
+        Err(_) => 0,
+    };
+    let m = programs::read(rt, &name[..n], &mut report);
     let one = summary::count(t, &report[..m]);
     if one.number != 0 {
         return one;
@@ -83,27 +86,34 @@ fn with(t: &[u8], day: Summary, k: usize) -> Summary {
 }
 
 // The day of all reports; arguments count from 0, which is the program's own name.
-fn play(t: &[u8], arguments: usize) {
+fn play(rt: &(impl Env + Files + Print), t: &[u8], arguments: usize) -> io::Result<()> {
     let mut day = Summary {
         number: 0,
         at: 0,
         counts: [0u32; 65],
     };
-    let mut k = 1;
-    while k < arguments {
-        let sum = with(t, day, k);
+    for k in 1..arguments {
+        let sum = with(rt, t, day, k);
         if sum.number != 0 {
-            programs::end(sum.number, sum.at, k - 1);
-            return;
+            return programs::end(rt, sum.number, sum.at, k - 1);
         }
         day = sum;
-        k += 1;
     }
-    tell(t, day, k - 1);
+    tell(rt, t, day, arguments.saturating_sub(1))
 }
 
-fn main() {
+// How many arguments there are, the program's own name among them.
+fn argument_count(rt: &impl Env) -> usize {
+    for k in 0..usize::MAX {
+        if let Err(FillError::NotPresent) = rt.arg(k, &mut []) {
+            return k;
+        }
+    }
+    usize::MAX
+}
+
+fn main(rt: HostRuntime) -> io::Result<()> {
     let mut net = [0u8; 8200];
-    let n = programs::read(b"net.bin", &mut net);
-    play(&net[..n], os::arg_count());
+    let n = programs::read(&rt, b"net.bin", &mut net);
+    play(&rt, &net[..n], argument_count(&rt))
 }

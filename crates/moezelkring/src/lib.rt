@@ -1,5 +1,6 @@
 // The engine's calls for C: include/moezelkring.h is the manual. Each promises what the engine's own call promises.
 #![tactic(auto)]
+
 ghost use Rattle.meaning.specs.Promise.{Checked, Started, Ran};
 ghost use Rattle.summary.specs.Promised.{Counted, Added, NetChanged};
 ghost use Rattle.moezelkring.specs.Exported.{told, counted, changed, PartOf};

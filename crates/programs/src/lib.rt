@@ -1,53 +1,59 @@
 // What the programs share: how they read and write a file, and the end line.
 #![tactic(auto)]
-ghost use Rattle.io.specs.Counts.{IsPrefixLen};
 
-use libc::STDOUT_FILENO;
+ghost use Rattle.std.specs.Counts.{IsPrefixLen};
 
-// What a file holds, as far as the buffer goes; nothing where it cannot be read.
-pub fn read(name: &[u8], buf: &mut [u8]) -> usize
+use std::io::Read;
+use std::rt::Files;
+use std::{fs, io, str};
+
+// Reads until the buffer is full, the file ends or a read fails; how many bytes of it now stand in the buffer.
+fn fill(file: &mut impl Read, buf: &mut [u8]) -> usize
     ensures { IsPrefixLen result buf.new }
 {
-    let fd = os::open_read(name);
-    if fd < 0 {
-        return 0;
+    let mut done = 0;
+    while done < buf.len() {
+        match file.read(&mut buf[done..]) {
+            Ok(0) => break,
+            Ok(n) => done += n,
+            Err(_) => break,
+        }
     }
-    let n = io::read_full(fd, buf);
-    libc::close(fd);
-    n
+    done
+}
+
+// What a file holds, as far as the buffer goes; nothing where it cannot be read.
+pub fn read(rt: &impl Files, name: &[u8], buf: &mut [u8]) -> usize
+    ensures { IsPrefixLen result buf.new }
+{
+    let Ok(path) = str::from_utf8(name) else {
+        return 0;
+    };
+    match fs::open(rt, path) {
+        Ok(mut file) => fill(&mut file, buf),
+        Err(_) => 0,
+    }
 }
 
 // Makes a file of these bytes, in place of what it held. Could all of them be written?
-fn written(name: &[u8], bytes: &[u8]) -> bool {
-    let fd = os::open_overwrite(name);
-    if fd < 0 {
+fn written(rt: &impl Files, name: &[u8], bytes: &[u8]) -> bool {
+    let Ok(path) = str::from_utf8(name) else {
         return false;
-    }
-    let all = io::write_all(fd, bytes);
-    libc::close(fd);
-    all
+    };
+    fs::write(rt, path, bytes).is_ok()
 }
 
 // The same, with a line that says so where it could not be done.
-pub fn write(name: &[u8], bytes: &[u8]) -> bool {
-    let all = written(name, bytes);
+pub fn write(rt: &(impl Files + Print), name: &[u8], bytes: &[u8]) -> io::Result<bool> {
+    let all = written(rt, name, bytes);
     if !all {
-        io::write_all(STDOUT_FILENO, name);
-        io::write_all(
-            STDOUT_FILENO,
-            b" cannot be written; see to the folder's rights and room\n",
-        );
+        rt.write_all(name)?;
+        println!(rt; " cannot be written; see to the folder's rights and room")?;
     }
-    all
+    Ok(all)
 }
 
 // The last line: number and where of an answer, and how much was done.
-pub fn end(number: usize, at: usize, done: usize) {
-    io::write_all(STDOUT_FILENO, b"end ");
-    io::print_decimal(STDOUT_FILENO, number as u64);
-    io::write_all(STDOUT_FILENO, b" ");
-    io::print_decimal(STDOUT_FILENO, at as u64);
-    io::write_all(STDOUT_FILENO, b" ");
-    io::print_decimal(STDOUT_FILENO, done as u64);
-    io::write_all(STDOUT_FILENO, b"\n");
+pub fn end(rt: &impl Print, number: usize, at: usize, done: usize) -> io::Result<()> {
+    println!(rt; "end {number} {at} {done}")
 }

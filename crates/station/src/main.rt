@@ -3,6 +3,9 @@
 // line. Where there is no image the net is started.
 #![tactic(auto)]
 
+use std::io;
+use std::rt::Files;
+
 // Does this answer of run leave an image and the records of its finished cycles?
 fn leaves(number: usize) -> bool {
     if number == 0 { true } else { number == 13 }
@@ -18,43 +21,42 @@ fn finished(report: &[u8], cycles: usize) -> &[u8] {
 }
 
 // The report first, and the image only behind it: without its report a call counts as not made.
-fn keep(report: &[u8], image: &[u8]) {
-    if programs::write(b"report.bin", report) {
-        programs::write(b"image.bin", image);
+fn keep(rt: &(impl Files + Print), report: &[u8], image: &[u8]) -> io::Result<()> {
+    if programs::write(rt, b"report.bin", report)? {
+        programs::write(rt, b"image.bin", image)?;
     }
+    Ok(())
 }
 
 // One call of run from this image, and what it leaves.
-fn call(t: &[u8], image: &mut [u8], words: &[u8]) {
+fn call(rt: &(impl Files + Print), t: &[u8], image: &mut [u8], words: &[u8]) -> io::Result<()> {
     let mut report = [0u8; 12288];
     let ran = engine::run(t, image, words, &mut report);
     if leaves(ran.number) {
-        keep(finished(&report, ran.cycles), image);
+        keep(rt, finished(&report, ran.cycles), image)?;
     }
-    programs::end(ran.number, ran.at, ran.cycles);
+    programs::end(rt, ran.number, ran.at, ran.cycles)
 }
 
 // The first call, from the image of the fresh net; a start that refuses has the last word.
-fn first(t: &[u8], words: &[u8]) {
+fn first(rt: &(impl Files + Print), t: &[u8], words: &[u8]) -> io::Result<()> {
     let mut image = [0u8; 768];
     let started = engine::start(t, &mut image);
     if started.number != 0 {
-        programs::end(started.number, started.at, started.cycles);
-        return;
+        return programs::end(rt, started.number, started.at, started.cycles);
     }
-    call(t, &mut image, words);
+    call(rt, t, &mut image, words)
 }
 
-fn main() {
+fn main(rt: HostRuntime) -> io::Result<()> {
     let mut net = [0u8; 8200];
     let mut words = [0u8; 4104];
     let mut image = [0u8; 772];
-    let n = programs::read(b"net.bin", &mut net);
-    let m = programs::read(b"words.bin", &mut words);
-    let k = programs::read(b"image.bin", &mut image);
+    let n = programs::read(&rt, b"net.bin", &mut net);
+    let m = programs::read(&rt, b"words.bin", &mut words);
+    let k = programs::read(&rt, b"image.bin", &mut image);
     if k == 0 {
-        first(&net[..n], &words[..m]);
-        return;
+        return first(&rt, &net[..n], &words[..m]);
     }
-    call(&net[..n], &mut image[..k], &words[..m]);
+    call(&rt, &net[..n], &mut image[..k], &words[..m])
 }
