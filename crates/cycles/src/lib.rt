@@ -1,6 +1,7 @@
 // The cycles of a call: the rows laid out for them, then one cycle a word, from the image that is lent into the report
 // that is lent.
 #![tactic(auto)]
+
 ghost use Rattle.std.specs.Prelude.{true, false, not, ◌&&◌, ◌||◌, ◌++◌, ◌≡◌, ℕ, ◌+◌, ◌*◌, ◌≤◌, ◌<◌, eqb, length, take, drop, replicate};
 ghost use Rattle.meaning.specs.Bytes.{bit, bytes};
 ghost use Rattle.rows.specs.Rows.{looks, limit_of};
