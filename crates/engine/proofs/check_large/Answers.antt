@@ -1,0 +1,11 @@
+-- The rows are enough, and the answer is the one that the stages come to.
+use Rattle.engine.proofs.Room.{large_room}
+use Rattle.engine.proofs.check_large.Goals as goal
+
+pub judge-v-requires : goal.judge-v-requires
+judge-v-requires c =
+    let pre = c.requires in
+    record { t_value = pre.t_value; judge_asks = large_room _ pre.roomy.0 pre.roomy.1 pre.t_value }
+
+pub returns : goal.returns
+returns c = record { answer_is = c.judge-v.ensures.answer }
