@@ -8,7 +8,7 @@ use native.Mathlib.Nat.{add-zero}
 use native.Mathlib.Numerals.{add-one}
 use native.Mathlib.Omega.{arith}
 use lib.Dec.{eqb}
-use lib.IntN.{ℤ, pos, ◌-ℤ◌, -ℤ-+ℤ_cancel, +ℤNeg_ℤ_cancel}
+use lib.IntN.{ℤ, pos, ◌-ℤ◌, -ℤ-+ℤ_cancel, +ℤ-neg_ℤ_cancel}
 use Rattle.meaning.specs.Below.{sum}
 use Rattle.meaning.specs.Bytes.{bit}
 use Rattle.meaning.specs.Table.{Table, arc, total}
@@ -103,5 +103,5 @@ change_is tb s p d = (
       let put = (moved_is tb 3 p s n.put).1 n.puts in
       let taken = (moved_is tb 0 p s n.taken).1 n.takes in
       rw (put, taken)
-      (ap (λ (x : ℤ). x -ℤ pos n.taken) (sym n.makes) ∙ +ℤNeg_ℤ_cancel d (pos n.taken)),
+      (ap (λ (x : ℤ). x -ℤ pos n.taken) (sym n.makes) ∙ +ℤ-neg_ℤ_cancel d (pos n.taken)),
 )

@@ -1,6 +1,7 @@
 // A count for the day: what fired over the cycles of a report, two summaries added, and what that changed at each
 // place. Each call has its answer table in docs/ENGINE.md.
 #![tactic(auto)]
+
 ghost use Rattle.std.specs.Prelude.{◌≡◌, ◌&&◌, not, ℕ, ◌+◌, ◌/◌, ◌≤◌, ◌<◌, eqb, length, get_or};
 ghost use Rattle.meaning.specs.Below.{first};
 ghost use Rattle.meaning.specs.Bytes.{bit};
@@ -10,7 +11,7 @@ ghost use Rattle.summary.specs.Day.{empty, no_change, bad_report, summary, too_o
 ghost use Rattle.summary.specs.Promised.{Counted, Added, NetChanged};
 ghost use Rattle.summary.specs.Parts.{said, told, strange_by, Ticks, Ticked};
 
-mod arcs; // arcs.rt: what the arcs move
+mod flow; // flow.rt: what the arcs move
 
 // A summary: answer number and where, the cycles and how often each transition fired. A refusal's counts are all 0.
 #[derive(Clone, Copy)]
@@ -225,9 +226,9 @@ pub fn net_change(t: &[u8], s: &[u32; 65]) -> Change
     if fires_too_often(s) {
         return no_change(15, 0);
     }
-    let put = arcs::moves(t, 3, s);
-    let taken = arcs::moves(t, 0, s);
-    let change = arcs::differences(&put, &taken);
+    let put = flow::moves(t, 3, s);
+    let taken = flow::moves(t, 0, s);
+    let change = flow::differences(&put, &taken);
     Change {
         number: 0,
         at: 0,
