@@ -32,8 +32,8 @@ fn put(arcs: &mut [u64; 320], to: u64, k: usize, what: u64)
 
 // Turns the rows of the first n places; places from n on have no input arcs. The sets are lent empty.
 pub fn turn(rows: &[u64], arcs: &mut [u64; 320], n: usize)
-    requires arcless_from { ArclessFrom n rows.now }
-    requires arcs_value { arcs.old ≡ replicate 320 0 }
+    requires arcless { ArclessFrom n rows.now }
+    requires empty { arcs.old ≡ replicate 320 0 }
     ensures { Turned rows.now arcs.new }
 {
     let mut p = 0;

@@ -2,7 +2,8 @@
 // that is lent.
 #![tactic(auto)]
 
-ghost use Rattle.std.specs.Prelude.{true, false, not, ◌&&◌, ◌||◌, ◌++◌, ◌≡◌, ℕ, ◌+◌, ◌*◌, ◌≤◌, ◌<◌, eqb, length, take, drop, replicate};
+ghost use Rattle.std.specs.Prelude.{true, false, not, ◌&&◌, ◌||◌, ◌++◌, ◌≡◌, ℕ, ◌+◌, ◌*◌, ◌≤◌, ◌<◌, eqb, length};
+ghost use Rattle.std.specs.Prelude.{take, drop, replicate};
 ghost use Rattle.meaning.specs.Bytes.{bit, bytes};
 ghost use Rattle.rows.specs.Rows.{looks, limit_of};
 ghost use Rattle.levels.specs.Levels.{Levels};
@@ -40,10 +41,10 @@ fn timed(times: &[u32; 192], m: usize) -> u64
 
 // The transitions with conditions of the first m. From m on none has any.
 fn conditional(rows: &[u64], m: usize) -> u64
-    requires m_bound { (m ≤ 64) × (8 * m ≤ length rows.now) }
-    requires by_index { (t k : ℕ) → m ≤ t → t < 64 → k < 64 → bit (looks rows.now t) k ≡ false }
-    ensures by_index_2 { (t : ℕ) → t < 64 → bit result t ≡ not (eqb (looks rows.now t) 0) }
-    ensures by_index_3 { (t : ℕ) → bit result t ≡ true → t < m }
+    requires room { (m ≤ 64) × (8 * m ≤ length rows.now) }
+    requires none_past { (t k : ℕ) → m ≤ t → t < 64 → k < 64 → bit (looks rows.now t) k ≡ false }
+    ensures tells { (t : ℕ) → t < 64 → bit result t ≡ not (eqb (looks rows.now t) 0) }
+    ensures low { (t : ℕ) → bit result t ≡ true → t < m }
 {
     let mut r = 0u64;
     let mut t = 0;

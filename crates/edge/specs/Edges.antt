@@ -1,5 +1,6 @@
 -- The falling edge's counters, and which transitions are firable, read off the rows.
-use Rattle.std.specs.Prelude.{Bool, true, cond, not, ◌&&◌, ◌||◌, List, ◌≡◌, ℕ, suc, ◌+◌, ◌*◌, ◌≤◌, ◌<◌, leb, ltb, eqb, length, get_or}
+use Rattle.std.specs.Prelude.{Bool, true, cond, not, ◌&&◌, ◌||◌, List, ◌≡◌, ℕ, suc, ◌+◌, ◌*◌, ◌≤◌, ◌<◌, leb, ltb, eqb}
+use Rattle.std.specs.Prelude.{length, get_or}
 use Rattle.meaning.specs.Below.{some}
 use Rattle.meaning.specs.Bytes.{bit}
 use Rattle.rows.specs.Rows.{looks, wanted_true, first_of, limit_of, last_of}
@@ -26,7 +27,8 @@ pub record Raises (timed orders on : ℕ) (times before after : List ℕ) : Type
 -- The set of those that are timed, enabled and in time.
 abbrev pub Ready : ℕ → ℕ → List ℕ → List ℕ → ℕ → Type 0
 Ready timed on times counters r =
-    (t : ℕ) → bit r t ≡ ((bit timed t && bit on t) && in_span (first_of times t) (last_of times t) (get_or counters t 0))
+    (t : ℕ) → bit r t ≡ ((bit timed t && bit on t)
+    && in_span (first_of times t) (last_of times t) (get_or counters t 0))
 
 -- No condition that is looked at is other than wanted: true where it is wanted true, else false.
 unfoldable pub as_asked : ℕ → ℕ → ℕ → Bool

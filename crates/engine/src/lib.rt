@@ -45,7 +45,7 @@ fn is_small(n: usize, bytes: usize) -> bool
 
 // Answers 2 to 9 with rows for 32 numbers and 256 records.
 fn check_small(t: &[u8], n: usize) -> Answer
-    requires t_value { bad_length t.now ≡ false }
+    requires right_length { bad_length t.now ≡ false }
     requires roomy { Roomy (table t.now) n × (n ≤ 32) × (length t.now ≤ 2048) }
     ensures { Checked t.now (said result) }
 {
@@ -67,7 +67,7 @@ fn check_small(t: &[u8], n: usize) -> Answer
 
 // The same with rows for any table.
 fn check_large(t: &[u8], n: usize) -> Answer
-    requires t_value { bad_length t.now ≡ false }
+    requires right_length { bad_length t.now ≡ false }
     requires roomy { Roomy (table t.now) n × (n ≤ 128) }
     ensures { Checked t.now (said result) }
 {
@@ -127,7 +127,7 @@ pub fn start(t: &[u8], image: &mut [u8]) -> Answer
 
 // run with rows for 32 numbers and 256 records.
 fn run_small(t: &[u8], n: usize, image: &mut [u8], words: &[u8], report: &mut [u8]) -> Answer
-    requires t_value { bad_length t.now ≡ false }
+    requires right_length { bad_length t.now ≡ false }
     requires roomy { Roomy (table t.now) n × (n ≤ 32) × (length t.now ≤ 2048) }
     ensures { Ran t.now image.old words.now report.old (said result)
         image.new report.new }
@@ -155,7 +155,7 @@ fn run_small(t: &[u8], n: usize, image: &mut [u8], words: &[u8], report: &mut [u
 
 // The same with rows for any table.
 fn run_large(t: &[u8], n: usize, image: &mut [u8], words: &[u8], report: &mut [u8]) -> Answer
-    requires t_value { bad_length t.now ≡ false }
+    requires right_length { bad_length t.now ≡ false }
     requires roomy { Roomy (table t.now) n × (n ≤ 128) }
     ensures { Ran t.now image.old words.now report.old (said result)
         image.new report.new }

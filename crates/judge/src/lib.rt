@@ -53,7 +53,7 @@ pub fn judge(
     posts: &mut [u16],
     times: &mut [u32; 192],
 ) -> Verdict
-    requires t_value { bad_length t.now ≡ false }
+    requires right_length { bad_length t.now ≡ false }
     requires judge_asks { JudgeAsks (table t.now) n rows.old w.old s.old heads.old posts.old times.old }
     ensures { Judges t.now n result rows.new w.new s.new heads.new
         posts.new times.new }

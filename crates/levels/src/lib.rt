@@ -160,8 +160,8 @@ pub struct Seen {
 // The same, of the first n places, by what is kept of them.
 pub fn gather(kept: &[u64; 384], n: usize) -> Seen
     requires { n ≤ 128 }
-    ensures by_index { (t : ℕ) → bit result.held t ≡ some n (λ p. bit (get_or kept.now p 0) t) }
-    ensures by_index_2 { (k : ℕ) → bit result.actions k ≡ some n (λ p. bit (get_or kept.now (128 + p) 0) k) }
+    ensures held { (t : ℕ) → bit result.held t ≡ some n (λ p. bit (get_or kept.now p 0) t) }
+    ensures shown { (k : ℕ) → bit result.actions k ≡ some n (λ p. bit (get_or kept.now (128 + p) 0) k) }
 {
     let mut held = 0u64;
     let mut actions = 0u64;

@@ -70,14 +70,16 @@ wrong_said bs img ws report sound right =
     (λ t m e.
     let l : t < 64 = omega arith in
     RunSays.image_transition t right l
-    ((wrong_transition_decides (table bs) sound (image img) t).0 (sym (wrong_at_transition (table bs) (image img) t) ∙ e)))
+    ((wrong_transition_decides (table bs) sound (image img) t).0 (sym (wrong_at_transition (table bs) (image img) t) ∙
+    e)))
 
 -- 10 at a record is caught: the image's length is right.
 record_caught : (bs img ws report : List ℕ) (k : ℕ) → length img ≡ 768 → k < 192 → wrong (table bs) (image img) k ≡ true
     → Caught 10 k (state_checks (table bs) img ++ word_checks ws report)
 unfolding state_checks
 record_caught bs img ws report k right l e =
-    Caught.there (λ j m b. absurd ((length_wrong img).0 b right)) (λ c. caught_here 192 (wrong (table bs) (image img)) 10 k _ l e)
+    Caught.there (λ j m b. absurd ((length_wrong img).0 b right)) (λ c. caught_here 192 (wrong (table bs) (image img))
+    10 k _ l e)
 
 -- What is said behind the table's checks, and behind the image's.
 behind_table : (bs img ws report : List ℕ) {n w : ℕ} → 10 ≤ stage n
@@ -96,7 +98,8 @@ run_answer : (bs img ws report : List ℕ) (n w : ℕ) → 0 < n → n < 13
     → ((run bs img ws report).answer ≡ refused n w) ↔ (decide (run_checks bs img ws report) (accepted 0) ≡ refused n w)
 unfolding run
 run_answer bs img ws report n w p q =
-    go (decide (run_checks bs img ws report) (accepted 0)) (eqb (decide (run_checks bs img ws report) (accepted 0)).number 0) refl
+    go (decide (run_checks bs img ws report) (accepted 0)) (eqb (decide (run_checks bs img ws report) (accepted
+    0)).number 0) refl
   where
     done : Trace
     done = trace (table bs) (words_of (length ws / 8) ws) img
@@ -143,7 +146,8 @@ check_accepts bs = accepts (TableSays bs) (table_checks bs) (table_refusing bs) 
 start_speaks : (bs img : List ℕ) → Speaks (StartSays bs img) (start_checks bs img)
 unfolding start_checks
 start_speaks bs img =
-    speaks_append (TableSays bs) (StartSays bs img) (table_checks bs) _ (λ n w s. StartSays.of_table s) (table_speaks bs)
+    speaks_append (TableSays bs) (StartSays bs img) (table_checks bs) _ (λ n w s. StartSays.of_table s) (table_speaks
+    bs)
     (λ c. (λ k f. StartSays.room ((length_wrong img).0 f.1), λ d. tt))
 
 start_catches : (bs img : List ℕ) (n w : ℕ) → StartSays bs img n w → Caught n w (start_checks bs img)
@@ -158,18 +162,21 @@ pub start_refuses : (bs img : List ℕ) (n w : ℕ) → 0 < n
     → ((start bs img).answer ≡ refused n w) ↔ First (StartSays bs img) n w
 start_refuses bs img n w p =
     rw (start_answer bs img)
-    (refuses (StartSays bs img) (start_checks bs img) (start_refusing bs img) (start_speaks bs img) (start_catches bs img) n w p)
+    (refuses (StartSays bs img) (start_checks bs img) (start_refusing bs img) (start_speaks bs img) (start_catches bs
+    img) n w p)
 
 pub start_accepts : (bs img : List ℕ) → ((start bs img).answer ≡ accepted 0) ↔ ((n w : ℕ) → ¬ StartSays bs img n w)
 start_accepts bs img =
     rw (start_answer bs img)
-    (accepts (StartSays bs img) (start_checks bs img) (start_refusing bs img) (start_speaks bs img) (start_catches bs img))
+    (accepts (StartSays bs img) (start_checks bs img) (start_refusing bs img) (start_speaks bs img) (start_catches bs
+    img))
 
 -- Run says and catches 1 to 12.
 run_speaks : (bs img ws report : List ℕ) → Speaks (RunSays bs img ws report) (run_list bs img ws report)
 unfolding state_checks word_checks
 run_speaks bs img ws report =
-    speaks_append (TableSays bs) (RunSays bs img ws report) (table_checks bs) (state_checks (table bs) img ++ word_checks ws report)
+    speaks_append (TableSays bs) (RunSays bs img ws report) (table_checks bs) (state_checks (table bs) img ++
+    word_checks ws report)
     (λ n w s. RunSays.of_table s)
     (table_speaks bs)
     (λ c. (
@@ -215,14 +222,16 @@ pub run_stops : (bs img ws report : List ℕ) (n w : ℕ) → 0 < n
     → (decide (run_checks bs img ws report) (accepted 0) ≡ refused n w) ↔ First (RunSays bs img ws report) n w
 run_stops bs img ws report n w p =
     rw (run_list_is bs img ws report)
-    (refuses (RunSays bs img ws report) (run_list bs img ws report) (run_refusing bs img ws report) (run_speaks bs img ws report)
+    (refuses (RunSays bs img ws report) (run_list bs img ws report) (run_refusing bs img ws report) (run_speaks bs img
+    ws report)
     (run_catches bs img ws report) n w p)
 
 pub run_goes : (bs img ws report : List ℕ)
     → (decide (run_checks bs img ws report) (accepted 0) ≡ accepted 0) ↔ ((n w : ℕ) → ¬ RunSays bs img ws report n w)
 run_goes bs img ws report =
     rw (run_list_is bs img ws report)
-    (accepts (RunSays bs img ws report) (run_list bs img ws report) (run_refusing bs img ws report) (run_speaks bs img ws report)
+    (accepts (RunSays bs img ws report) (run_list bs img ws report) (run_refusing bs img ws report) (run_speaks bs img
+    ws report)
     (run_catches bs img ws report))
 
 -- Run answers the first that is said, if any is.
@@ -233,7 +242,8 @@ run_refuses bs img ws report n w p q =
 
 -- What run's checks decide is the acceptance, or a refusal before any cycle.
 pub run_form : (bs img ws report : List ℕ) → Form (decide (run_checks bs img ws report) (accepted 0))
-run_form bs img ws report = rw (run_list_is bs img ws report) (decide_form (run_list bs img ws report) (run_refusing bs img ws report))
+run_form bs img ws report =
+    rw (run_list_is bs img ws report) (decide_form (run_list bs img ws report) (run_refusing bs img ws report))
 
 -- And so of check and start.
 pub check_form : (bs : List ℕ) → Form (check bs)

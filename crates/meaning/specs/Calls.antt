@@ -1,6 +1,7 @@
 -- Document 01, "What the station hands over" and "Answer numbers and their order": what check, start, run and
 -- lookup leave behind.
-use Rattle.std.specs.Prelude.{cond, not, ◌&&◌, ◌||◌, List, [], ◌∷◌, ◌++◌, ℕ, zero, suc, ◌*◌, ◌-◌, ◌/◌, ◌%◌, ltb, leb, eqb, length, take, drop}
+use Rattle.std.specs.Prelude.{cond, not, ◌&&◌, ◌||◌, List, [], ◌∷◌, ◌++◌, ℕ, zero, suc, ◌*◌, ◌-◌, ◌/◌, ◌%◌, ltb, leb}
+use Rattle.std.specs.Prelude.{eqb, length, take, drop}
 use Rattle.meaning.specs.Below.{first}
 use Rattle.meaning.specs.Bytes.{number}
 use Rattle.meaning.specs.Table.{Table, table}

@@ -1,6 +1,7 @@
 -- Document 01, "When a table is well defined" and answers 1 to 9, in the page's order (source document 001,
 -- definitions 10 to 14).
-use Rattle.std.specs.Prelude.{Bool, false, cond, not, ◌&&◌, ◌||◌, List, [], ◌∷◌, ℕ, ◌+◌, ◌*◌, ◌-◌, ◌%◌, ltb, leb, eqb, length, get_or}
+use Rattle.std.specs.Prelude.{Bool, false, cond, not, ◌&&◌, ◌||◌, List, [], ◌∷◌, ℕ, ◌+◌, ◌*◌, ◌-◌, ◌%◌, ltb, leb, eqb}
+use Rattle.std.specs.Prelude.{length, get_or}
 use Rattle.std.specs.Bool.{beq}
 use Rattle.meaning.specs.Below.{some, first}
 use Rattle.meaning.specs.Table.{Table, table, kind_row, is, basic, test, inhibitor, post, place, transition}

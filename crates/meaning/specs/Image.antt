@@ -1,6 +1,7 @@
 -- Document 01, "State image": 192 records of four bytes, the places and then the transitions, and when an image
 -- fits a table (answer 10).
-use Rattle.std.specs.Prelude.{Bool, cond, not, ◌&&◌, ◌||◌, false, List, [], ◌∷◌, ◌++◌, ℕ, zero, suc, ◌+◌, ◌*◌, ◌-◌, ltb, eqb, length, get_or}
+use Rattle.std.specs.Prelude.{Bool, cond, not, ◌&&◌, ◌||◌, false, List, [], ◌∷◌, ◌++◌, ℕ, zero, suc, ◌+◌, ◌*◌, ◌-◌}
+use Rattle.std.specs.Prelude.{ltb, eqb, length, get_or}
 use Rattle.meaning.specs.Bytes.{bytes, cut}
 use Rattle.meaning.specs.Table.{Table, place, timing, a_of, b_of, first_tokens}
 use Rattle.meaning.specs.Answer.{Check, check_of, refused}

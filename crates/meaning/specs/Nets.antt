@@ -1,5 +1,6 @@
 -- Document 01, "Nets on the bench": the nets marked P as one table of cases. Weights are 1 unless said.
-use Rattle.std.specs.Prelude.{Bool, true, false, cond, ◌&&◌, List, [], ◌∷◌, ◌++◌, ℕ, zero, suc, ◌*◌, eqb, length, replicate, take, drop}
+use Rattle.std.specs.Prelude.{Bool, true, false, cond, ◌&&◌, List, [], ◌∷◌, ◌++◌, ℕ, zero, suc, ◌*◌, eqb, length}
+use Rattle.std.specs.Prelude.{replicate, take, drop}
 use Rattle.meaning.specs.Bytes.{number, bytes}
 use Rattle.meaning.specs.Table.{Table, table}
 use Rattle.meaning.specs.Image.{image_bytes}

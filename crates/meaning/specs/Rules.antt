@@ -2,7 +2,8 @@
 -- and uses nothing that computes. The laws of proofs/Falling.antt, proofs/Rising.antt and proofs/Turns.antt
 -- hold the definitions of Cycle.antt to it in both directions. Definitions and rules are numbered as in source
 -- document 001; its rules 1 to 9 are those of its definition 7.
-use Rattle.std.specs.Prelude.{Bool, true, false, List, ◌↔◌, ◌⊎◌, ◌≡◌, ℕ, suc, ◌+◌, ◌-◌, ◌*◌, ◌^◌, ◌≤◌, ◌<◌, length, get_or}
+use Rattle.std.specs.Prelude.{Bool, true, false, List, ◌↔◌, ◌⊎◌, ◌≡◌, ℕ, suc, ◌+◌, ◌-◌, ◌*◌, ◌^◌, ◌≤◌, ◌<◌, length}
+use Rattle.std.specs.Prelude.{get_or}
 use Rattle.meaning.specs.Table.{Table}
 use Rattle.meaning.specs.Image.{State}
 use Rattle.meaning.specs.Says.{Place, Transition, Arc, Wanted, Timed, Above}

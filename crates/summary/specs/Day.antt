@@ -1,6 +1,7 @@
 -- Document 02, request (i): a count for the day. What count, add and net change leave behind. A summary is 65
 -- numbers: the cycles, and then how often each of the transitions 0 to 63 fired.
-use Rattle.std.specs.Prelude.{Bool, cond, not, ◌&&◌, ◌||◌, List, [], ◌∷◌, ◌++◌, ℕ, zero, suc, ◌+◌, ◌*◌, ◌/◌, ◌%◌, ltb, eqb, ℤ, pos, ◌-ℤ◌, length, get_or, take, drop, replicate}
+use Rattle.std.specs.Prelude.{Bool, cond, not, ◌&&◌, ◌||◌, List, [], ◌∷◌, ◌++◌, ℕ, zero, suc, ◌+◌, ◌*◌, ◌/◌, ◌%◌, ltb}
+use Rattle.std.specs.Prelude.{eqb, ℤ, pos, ◌-ℤ◌, length, get_or, take, drop, replicate}
 use Rattle.meaning.specs.Below.{some, sum}
 use Rattle.meaning.specs.Bytes.{number, bit}
 use Rattle.meaning.specs.Table.{Table, table, arc, transition, total}

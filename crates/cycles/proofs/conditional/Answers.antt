@@ -19,7 +19,7 @@ pub loop-t-preserved : goal.loop-t-preserved
 loop-t-preserved c =
     let at = c.loop-t in
     let start = c in
-    let low : at.t < 64 = omega (arith, c.loop-t-test.true, start.requires.m_bound.0) in (
+    let low : at.t < 64 = omega (arith, c.loop-t-test.true, start.requires.room.0) in (
       omega (arith, c.loop-t-test.true),
       λ j.
           next_number (λ k. not (eqb (looks start.args.rows.now k) 0)) j at.t refl (c.with_if-r.ensures j)
@@ -31,7 +31,7 @@ returns c =
     let at = c.loop-t in
     let rows = c.args.rows.now in
     record {
-      by_index_2 =
+      tells =
           λ t h.
           at.invariant.1 t
           ∙ below_end at.t (λ k. not (eqb (looks rows k) 0)) t
@@ -41,8 +41,8 @@ returns c =
           (eq-eqb (looks rows t) 0
           (same_set (looks rows t) 0 word (omega arith)
           (λ k l.
-          c.requires.by_index t k (omega (arith, past, at.invariant.0, c.loop-t-test.false)) h l
+          c.requires.none_past t k (omega (arith, past, at.invariant.0, c.loop-t-test.false)) h l
           ∙ sym (bit_zero k)))));
-      by_index_3 =
+      low =
           λ t e. omega (arith, ltb-true t at.t (and_left (ltb t at.t) _ (sym (at.invariant.1 t) ∙ e)), at.invariant.0);
     }

@@ -5,7 +5,7 @@ use Rattle.rows.proofs.Few.{transitions_le}
 use Rattle.cycles.proofs.lay.Goals as goal
 
 pub turn-requires : goal.turn-requires
-turn-requires c = record { arcless_from = c.requires.0.arcless; arcs_value = c.requires.1 }
+turn-requires c = record { arcless = c.requires.0.arcless; empty = c.requires.1 }
 
 pub rivals-lower-requires : goal.rivals-lower-requires
 rivals-lower-requires c =
@@ -23,8 +23,8 @@ conditional-requires c =
     let m = c.transitions-m.ensures in
     let asks = c.requires.0 in
     record {
-      m_bound = (omega (arith, m, asks.pairs.few), omega (arith, m, asks.pairs.there));
-      by_index = λ t k h l. asks.unlooked t k (omega (arith, m, h)) l;
+      room = (omega (arith, m, asks.pairs.few), omega (arith, m, asks.pairs.there));
+      none_past = λ t k h l. asks.unlooked t k (omega (arith, m, h)) l;
     }
 
 pub returns : goal.returns
@@ -38,6 +38,6 @@ returns c =
       known_is = refl;
       rivals = c.rivals-lower.ensures;
       timed_is = c.timed.ensures;
-      conditional_is = c.conditional.ensures.by_index_2;
-      conditional_low = λ t e. omega (arith, c.conditional.ensures.by_index_3 t e, m, (transitions_le start.args.n).1);
+      conditional_is = c.conditional.ensures.tells;
+      conditional_low = λ t e. omega (arith, c.conditional.ensures.low t e, m, (transitions_le start.args.n).1);
     }

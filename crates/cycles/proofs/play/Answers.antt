@@ -82,7 +82,8 @@ returns-then-done-ne0 c =
     record {
       ends = λ bs of.
           let broke =
-          c.cycles-first.ensures.broke bs (cycles_of of c.lay-net.ensures _ _ (omega arith) refl) c.if-first-eq0.false in
+          c.cycles-first.ensures.broke bs (cycles_of of c.lay-net.ensures _ _ (omega arith) refl) c.if-first-eq0.false
+          in
           let runs = cycles_of of c.lay-net.ensures _ _ (omega (arith, broke.1)) c.report-1.given in
           again broke.2 broke.0 c.if-done-ne0.true
           (c.cycles-last.ensures.done bs runs (all_again broke.2 c.cycles-last.ensures runs))
@@ -94,6 +95,7 @@ returns-else-done-ne0 c =
     record {
       ends = λ bs of.
           let broke =
-          c.cycles-first.ensures.broke bs (cycles_of of c.lay-net.ensures _ _ (omega arith) refl) c.if-first-eq0.false in
+          c.cycles-first.ensures.broke bs (cycles_of of c.lay-net.ensures _ _ (omega arith) refl) c.if-first-eq0.false
+          in
           at_once broke.2 broke.0 c.if-done-ne0.false;
     }

@@ -5,7 +5,7 @@ use Rattle.engine.proofs.check_large.Goals as goal
 pub judge-v-requires : goal.judge-v-requires
 judge-v-requires c =
     let pre = c.requires in
-    record { t_value = pre.t_value; judge_asks = large_room _ pre.roomy.0 pre.roomy.1 pre.t_value }
+    record { right_length = pre.right_length; judge_asks = large_room _ pre.roomy.0 pre.roomy.1 pre.right_length }
 
 pub returns : goal.returns
 returns c = record { answer_is = c.judge-v.ensures.answer }

@@ -9,7 +9,7 @@ use Rattle.engine.proofs.run_large.Goals as goal
 pub judge-v-requires : goal.judge-v-requires
 judge-v-requires c =
     let pre = c.requires in
-    record { t_value = pre.t_value; judge_asks = large_room _ pre.roomy.0 pre.roomy.1 pre.t_value }
+    record { right_length = pre.right_length; judge_asks = large_room _ pre.roomy.0 pre.roomy.1 pre.right_length }
 
 pub returns-then-v-ne0 : goal.returns-then-v-ne0
 returns-then-v-ne0 c = refused_by_table _ _ _ _ c.judge-v.ensures.answer c.if-v-ne0.true
@@ -23,7 +23,7 @@ proceed-requires c =
       bs = _;
       of =
           goes_on c.judge-v.ensures 16 pre.roomy.1 (omega arith) (omega arith) (omega arith) (omega arith)
-          (omega (arith, few_bytes _ pre.t_value)) c.if-v-ne0.false;
+          (omega (arith, few_bytes _ pre.right_length)) c.if-v-ne0.false;
     }
 
 pub returns : goal.returns
@@ -32,4 +32,4 @@ returns c =
     let pre = c.requires in
     c.proceed.ensures.ran _
     (goes_on c.judge-v.ensures 16 pre.roomy.1 (omega arith) (omega arith) (omega arith) (omega arith)
-    (omega (arith, few_bytes _ pre.t_value)) c.if-v-ne0.false)
+    (omega (arith, few_bytes _ pre.right_length)) c.if-v-ne0.false)

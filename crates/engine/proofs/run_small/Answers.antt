@@ -8,7 +8,7 @@ use Rattle.engine.proofs.run_small.Goals as goal
 pub judge-v-requires : goal.judge-v-requires
 judge-v-requires c =
     let pre = c.requires in
-    record { t_value = pre.t_value; judge_asks = small_room _ pre.roomy.0 pre.roomy.1 pre.roomy.2 }
+    record { right_length = pre.right_length; judge_asks = small_room _ pre.roomy.0 pre.roomy.1 pre.roomy.2 }
 
 pub returns-then-v-ne0 : goal.returns-then-v-ne0
 returns-then-v-ne0 c = refused_by_table _ _ _ _ c.judge-v.ensures.answer c.if-v-ne0.true

@@ -13,7 +13,8 @@ returns-then-a-ne0 c =
 pub returns-then-image-ne768 : goal.returns-then-image-ne768
 returns-then-image-ne768 c =
     let answer = c.check-a.ensures.answer_is in
-    let left = started_short _ _ (ap (λ (a : Answer). a.number) (sym answer) ∙ c.if-a-ne0.false) c.if-image-ne768.true in
+    let left = started_short _ _ (ap (λ (a : Answer). a.number) (sym answer) ∙ c.if-a-ne0.false) c.if-image-ne768.true
+    in
     record { answer_is = sym left.0; image_is = sym left.1 }
 
 pub fresh-requires : goal.fresh-requires

@@ -11,7 +11,8 @@ fires_now left out m rows arcs w s t = not (waits_for arcs left t) && keeps m ro
 
 abbrev pub invariant-loop-todo : goal.invariant-loop-todo
 invariant-loop-todo l =
-    Walked l.left l.out (waits_for l.arcs l.left) (fires_now l.left l.out l.tokens l.rows l.arcs l.w l.s) l.todo l.keep l.more
+    Walked l.left l.out (waits_for l.arcs l.left) (fires_now l.left l.out l.tokens l.rows l.arcs l.w l.s) l.todo
+    l.keep l.more
 
 abbrev pub decreases-loop-todo : goal.decreases-loop-todo
 decreases-loop-todo l = l.todo

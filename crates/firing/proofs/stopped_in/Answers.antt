@@ -21,7 +21,8 @@ use Rattle.firing.proofs.stopped_in.Goals.{then-takers-ne0+else-stops, else-take
 -- Where members of g take from p, the answer about what they leave is whether p stops t.
 asked : (m rows : List ℕ) (w s : List (List ℕ)) (g t p taken rest : ℕ) (answer : Bool)
     → ¬ (bit_and g (takers rows p) ≡ 0)
-    → taken ≡ over (bit_and g (takers rows p)) (cell w p) → rest ≡ get_or m p 0 - taken → answer ≡ stops_with rest w s t p
+    → taken ≡ over (bit_and g (takers rows p)) (cell w p) → rest ≡ get_or m p 0 - taken → answer ≡ stops_with rest w s
+    t p
     → stopped_at m rows w s g t p ≡ answer
 asked m rows w s g t p taken rest answer n took left says =
     rw (ne_eqb (bit_and g (takers rows p)) 0 n)
@@ -35,13 +36,16 @@ loop-left-init c = (omega arith, λ p e. e, refl)
 
 -- The member that is taken is below 64, and in what is left. So it is in the word, and its place has its rows.
 pub bounds-w-p : goal.bounds-w-p
-bounds-w-p c = (let k = (lowest_in c.loop-left.left c.lowest.result c.loop-left.invariant.0 c.loop-left-test.true c.lowest.ensures) in c.requires.2.weights_in c.lowest.result k.0 (c.loop-left.invariant.1 c.lowest.result k.1))
+bounds-w-p c =
+    (let k = (lowest_in c.loop-left.left c.lowest.result c.loop-left.invariant.0 c.loop-left-test.true
+    c.lowest.ensures) in c.requires.2.weights_in c.lowest.result k.0 (c.loop-left.invariant.1 c.lowest.result k.1))
 
 pub returns-then-stops : goal.returns-then-stops
 returns-then-stops c =
     let at = c.loop-left in
     let a = c.args in
-    let k = (lowest_in c.loop-left.left c.lowest.result c.loop-left.invariant.0 c.loop-left-test.true c.lowest.ensures) in
+    let k = (lowest_in c.loop-left.left c.lowest.result c.loop-left.invariant.0 c.loop-left-test.true
+    c.lowest.ensures) in
     let here = asked a.tokens.now a.rows.now a.w.now a.s.now a.g a.t (a.from + c.lowest.result) in
     sym
     (at.invariant.2
@@ -52,7 +56,8 @@ pub loop-left-smaller : goal.loop-left-smaller
 loop-left-smaller c =
     let at = c.loop-left in
     falls at.left _ c.rest-left.result (λ j. rw c.lowest.ensures (c.rest-left.ensures j)) at.invariant.0
-    (omega arith) (lowest_in c.loop-left.left c.lowest.result c.loop-left.invariant.0 c.loop-left-test.true c.lowest.ensures).1
+    (omega arith) (lowest_in c.loop-left.left c.lowest.result c.loop-left.invariant.0 c.loop-left-test.true
+    c.lowest.ensures).1
 
 pub loop-left-preserved : goal.loop-left-preserved
 loop-left-preserved c =
@@ -63,7 +68,8 @@ loop-left-preserved c =
     let free : stopped_at a.tokens.now a.rows.now a.w.now a.s.now a.g a.t p ≡ false =
     elim c.if-takers-ne0.branch [
       | then-takers-ne0+else-stops w ↦
-          here _ _ _ w.if-takers-ne0.true w.at_place-taken.ensures.0 w.rest_of.ensures w.stops.ensures ∙ w.if-stops.false
+          here _ _ _ w.if-takers-ne0.true w.at_place-taken.ensures.0 w.rest_of.ensures w.stops.ensures ∙
+          w.if-stops.false
       | else-takers-ne0 w ↦ rw (eq-eqb (bit_and a.g (takers a.rows.now p)) 0 w.if-takers-ne0.false)
     ] in (
       omega arith,
@@ -75,31 +81,49 @@ pub returns : goal.returns
 returns c = sym (c.loop-left.invariant.2 ∙ nothing c.loop-left.left _ c.loop-left-test.false)
 
 pub overflow_add-p : goal.overflow_add-p
-overflow_add-p c = omega (arith, (lowest_in c.loop-left.left c.lowest.result c.loop-left.invariant.0 c.loop-left-test.true c.lowest.ensures).0)
+overflow_add-p c =
+    omega (arith, (lowest_in c.loop-left.left c.lowest.result c.loop-left.invariant.0 c.loop-left-test.true
+    c.lowest.ensures).0)
 
 pub overflow_mul-takers : goal.overflow_mul-takers
-overflow_mul-takers c = omega (arith, (lowest_in c.loop-left.left c.lowest.result c.loop-left.invariant.0 c.loop-left-test.true c.lowest.ensures).0)
+overflow_mul-takers c =
+    omega (arith, (lowest_in c.loop-left.left c.lowest.result c.loop-left.invariant.0 c.loop-left-test.true
+    c.lowest.ensures).0)
 
 pub overflow_add-takers : goal.overflow_add-takers
-overflow_add-takers c = omega (arith, (lowest_in c.loop-left.left c.lowest.result c.loop-left.invariant.0 c.loop-left-test.true c.lowest.ensures).0)
+overflow_add-takers c =
+    omega (arith, (lowest_in c.loop-left.left c.lowest.result c.loop-left.invariant.0 c.loop-left-test.true
+    c.lowest.ensures).0)
 
 pub offset_bounds-rows-p : goal.offset_bounds-rows-p
-offset_bounds-rows-p c = omega (arith, (lowest_in c.loop-left.left c.lowest.result c.loop-left.invariant.0 c.loop-left-test.true c.lowest.ensures).0)
+offset_bounds-rows-p c =
+    omega (arith, (lowest_in c.loop-left.left c.lowest.result c.loop-left.invariant.0 c.loop-left-test.true
+    c.lowest.ensures).0)
 
 pub bounds-rows-p : goal.bounds-rows-p
-bounds-rows-p c = omega (arith, (let k = (lowest_in c.loop-left.left c.lowest.result c.loop-left.invariant.0 c.loop-left-test.true c.lowest.ensures) in c.requires.2.sets_in c.lowest.result k.0 (c.loop-left.invariant.1 c.lowest.result k.1)))
+bounds-rows-p c =
+    omega (arith, (let k = (lowest_in c.loop-left.left c.lowest.result c.loop-left.invariant.0 c.loop-left-test.true
+    c.lowest.ensures) in c.requires.2.sets_in c.lowest.result k.0 (c.loop-left.invariant.1 c.lowest.result k.1)))
 
 pub offset_bounds-w-p : goal.offset_bounds-w-p
-offset_bounds-w-p c = omega (arith, (lowest_in c.loop-left.left c.lowest.result c.loop-left.invariant.0 c.loop-left-test.true c.lowest.ensures).0)
+offset_bounds-w-p c =
+    omega (arith, (lowest_in c.loop-left.left c.lowest.result c.loop-left.invariant.0 c.loop-left-test.true
+    c.lowest.ensures).0)
 
 pub offset_bounds-tokens-p : goal.offset_bounds-tokens-p
-offset_bounds-tokens-p c = omega (arith, (lowest_in c.loop-left.left c.lowest.result c.loop-left.invariant.0 c.loop-left-test.true c.lowest.ensures).0)
+offset_bounds-tokens-p c =
+    omega (arith, (lowest_in c.loop-left.left c.lowest.result c.loop-left.invariant.0 c.loop-left-test.true
+    c.lowest.ensures).0)
 
 pub bounds-tokens-p : goal.bounds-tokens-p
-bounds-tokens-p c = omega (arith, (lowest_in c.loop-left.left c.lowest.result c.loop-left.invariant.0 c.loop-left-test.true c.lowest.ensures).0)
+bounds-tokens-p c =
+    omega (arith, (lowest_in c.loop-left.left c.lowest.result c.loop-left.invariant.0 c.loop-left-test.true
+    c.lowest.ensures).0)
 
 pub offset_bounds-w-p-then-takers-ne0 : goal.offset_bounds-w-p-then-takers-ne0
-offset_bounds-w-p-then-takers-ne0 c = omega (arith, (lowest_in c.loop-left.left c.lowest.result c.loop-left.invariant.0 c.loop-left-test.true c.lowest.ensures).0)
+offset_bounds-w-p-then-takers-ne0 c =
+    omega (arith, (lowest_in c.loop-left.left c.lowest.result c.loop-left.invariant.0 c.loop-left-test.true
+    c.lowest.ensures).0)
 
 pub offset_bounds-w-t : goal.offset_bounds-w-t
 offset_bounds-w-t c = omega arith
@@ -108,13 +132,19 @@ pub bounds-w-t : goal.bounds-w-t
 bounds-w-t c = omega arith
 
 pub offset_bounds-s-p : goal.offset_bounds-s-p
-offset_bounds-s-p c = omega (arith, (lowest_in c.loop-left.left c.lowest.result c.loop-left.invariant.0 c.loop-left-test.true c.lowest.ensures).0)
+offset_bounds-s-p c =
+    omega (arith, (lowest_in c.loop-left.left c.lowest.result c.loop-left.invariant.0 c.loop-left-test.true
+    c.lowest.ensures).0)
 
 pub bounds-s-t : goal.bounds-s-t
 bounds-s-t c = omega arith
 
 pub bounds-w-p-then-takers-ne0 : goal.bounds-w-p-then-takers-ne0
-bounds-w-p-then-takers-ne0 c = omega (arith, (let k = (lowest_in c.loop-left.left c.lowest.result c.loop-left.invariant.0 c.loop-left-test.true c.lowest.ensures) in c.requires.2.weights_in c.lowest.result k.0 (c.loop-left.invariant.1 c.lowest.result k.1)))
+bounds-w-p-then-takers-ne0 c =
+    omega (arith, (let k = (lowest_in c.loop-left.left c.lowest.result c.loop-left.invariant.0 c.loop-left-test.true
+    c.lowest.ensures) in c.requires.2.weights_in c.lowest.result k.0 (c.loop-left.invariant.1 c.lowest.result k.1)))
 
 pub bounds-s-p : goal.bounds-s-p
-bounds-s-p c = omega (arith, (let k = (lowest_in c.loop-left.left c.lowest.result c.loop-left.invariant.0 c.loop-left-test.true c.lowest.ensures) in c.requires.2.sorts_in c.lowest.result k.0 (c.loop-left.invariant.1 c.lowest.result k.1)))
+bounds-s-p c =
+    omega (arith, (let k = (lowest_in c.loop-left.left c.lowest.result c.loop-left.invariant.0 c.loop-left-test.true
+    c.lowest.ensures) in c.requires.2.sorts_in c.lowest.result k.0 (c.loop-left.invariant.1 c.lowest.result k.1)))

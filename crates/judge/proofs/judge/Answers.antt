@@ -54,13 +54,13 @@ module _ {bs : List ℕ} {n : ℕ} {known : Declared} {rows : List ℕ} {w s : L
 
 pub scan-pass-requires : goal.scan-pass-requires
 scan-pass-requires c =
-    record { t_len_bound = few_bytes _ c.requires.t_value; blank = c.requires.judge_asks.blank }
+    record { t_len_bound = few_bytes _ c.requires.right_length; blank = c.requires.judge_asks.blank }
 
 pub returns-then-pass-ne0 : goal.returns-then-pass-ne0
 returns-then-pass-ne0 c =
     let bad = c.if-pass-ne0.true in
     refusal (λ z. bad (sym c.wide.ensures ∙ z))
-    (rw c.wide.ensures (verdict_2 _ c.requires.t_value c.scan-pass.ensures bad))
+    (rw c.wide.ensures (verdict_2 _ c.requires.right_length c.scan-pass.ensures bad))
 
 pub first_unknown-unknown-requires : goal.first_unknown-unknown-requires
 first_unknown-unknown-requires c = omega (arith, rows_there c.requires.judge_asks, c.scan-pass.auto.rows)
@@ -69,13 +69,13 @@ pub returns-then-unknown-t : goal.returns-then-unknown-t
 unfolding table
 returns-then-unknown-t c =
     let asks = c.requires.judge_asks in
-    let fine = no_fault _ c.requires.t_value c.scan-pass.ensures asks.few asks.roomy c.if-pass-ne0.false in
+    let fine = no_fault _ c.requires.right_length c.scan-pass.ensures asks.few asks.roomy c.if-pass-ne0.false in
     refusal (λ z. omega (arith, z)) (verdict_5 fine c.first_unknown-unknown.ensures c.if-unknown-t.true)
 
 pub returns-then-none-lt2 : goal.returns-then-none-lt2
 returns-then-none-lt2 c =
     let asks = c.requires.judge_asks in
-    let fine = no_fault _ c.requires.t_value c.scan-pass.ensures asks.few asks.roomy c.if-pass-ne0.false in
+    let fine = no_fault _ c.requires.right_length c.scan-pass.ensures asks.few asks.roomy c.if-pass-ne0.false in
     refusal (λ z. omega (arith, z))
     (verdict_6 fine (left_6 fine c.first_unknown-unknown.ensures c.if-unknown-t.false) c.first_none-none.ensures
     c.if-none-lt2.true)
@@ -83,13 +83,13 @@ returns-then-none-lt2 c =
 pub first_isolated-isolated-requires : goal.first_isolated-isolated-requires
 first_isolated-isolated-requires c =
     let asks = c.requires.judge_asks in
-    let fine = no_fault _ c.requires.t_value c.scan-pass.ensures asks.few asks.roomy c.if-pass-ne0.false in
+    let fine = no_fault _ c.requires.right_length c.scan-pass.ensures asks.few asks.roomy c.if-pass-ne0.false in
     (quiet (whole fine), omega (arith, rows_there asks, c.scan-pass.auto.rows))
 
 pub returns-then-isolated-lt192 : goal.returns-then-isolated-lt192
 returns-then-isolated-lt192 c =
     let asks = c.requires.judge_asks in
-    let fine = no_fault _ c.requires.t_value c.scan-pass.ensures asks.few asks.roomy c.if-pass-ne0.false in
+    let fine = no_fault _ c.requires.right_length c.scan-pass.ensures asks.few asks.roomy c.if-pass-ne0.false in
     refusal (λ z. omega (arith, z))
     (verdict_7 fine
     (left_7 fine c.first_unknown-unknown.ensures c.if-unknown-t.false c.first_none-none.ensures c.if-none-lt2.false)
@@ -98,14 +98,14 @@ returns-then-isolated-lt192 c =
 pub close-requires : goal.close-requires
 close-requires c =
     let asks = c.requires.judge_asks in
-    let fine = no_fault _ c.requires.t_value c.scan-pass.ensures asks.few asks.roomy c.if-pass-ne0.false in
+    let fine = no_fault _ c.requires.right_length c.scan-pass.ensures asks.few asks.roomy c.if-pass-ne0.false in
     low_pairs fine (declared fine c.first_unknown-unknown.ensures c.if-unknown-t.false) c.transitions-m.ensures
     (omega (arith, rows_there asks, c.scan-pass.auto.rows))
 
 pub circle-circle-requires : goal.circle-circle-requires
 circle-circle-requires c =
     let asks = c.requires.judge_asks in
-    let fine = no_fault _ c.requires.t_value c.scan-pass.ensures asks.few asks.roomy c.if-pass-ne0.false in
+    let fine = no_fault _ c.requires.right_length c.scan-pass.ensures asks.few asks.roomy c.if-pass-ne0.false in
     low_kept
     (low_pairs fine (declared fine c.first_unknown-unknown.ensures c.if-unknown-t.false) c.transitions-m.ensures
     (omega (arith, rows_there asks, c.scan-pass.auto.rows)))
@@ -114,7 +114,7 @@ circle-circle-requires c =
 pub returns-then-circle-lt64 : goal.returns-then-circle-lt64
 returns-then-circle-lt64 c =
     let asks = c.requires.judge_asks in
-    let fine = no_fault _ c.requires.t_value c.scan-pass.ensures asks.few asks.roomy c.if-pass-ne0.false in
+    let fine = no_fault _ c.requires.right_length c.scan-pass.ensures asks.few asks.roomy c.if-pass-ne0.false in
     refusal (λ z. omega (arith, z))
     (verdict_8 fine c.close.ensures
     (left_8 fine c.first_unknown-unknown.ensures c.if-unknown-t.false c.first_none-none.ensures c.if-none-lt2.false
@@ -124,7 +124,7 @@ returns-then-circle-lt64 c =
 pub conflicts-requires : goal.conflicts-requires
 conflicts-requires c =
     let asks = c.requires.judge_asks in
-    let fine = no_fault _ c.requires.t_value c.scan-pass.ensures asks.few asks.roomy c.if-pass-ne0.false in (
+    let fine = no_fault _ c.requires.right_length c.scan-pass.ensures asks.few asks.roomy c.if-pass-ne0.false in (
       takerless fine c.close.ensures (declared fine c.first_unknown-unknown.ensures c.if-unknown-t.false)
           (rw c.close.ensures.size (omega (arith, rows_there asks, c.scan-pass.auto.rows))),
       refl,
@@ -133,7 +133,7 @@ conflicts-requires c =
 pub least-unsettled-requires : goal.least-unsettled-requires
 least-unsettled-requires c =
     let asks = c.requires.judge_asks in
-    let fine = no_fault _ c.requires.t_value c.scan-pass.ensures asks.few asks.roomy c.if-pass-ne0.false in
+    let fine = no_fault _ c.requires.right_length c.scan-pass.ensures asks.few asks.roomy c.if-pass-ne0.false in
     least_asks fine c.close.ensures (declared fine c.first_unknown-unknown.ensures c.if-unknown-t.false)
     c.conflicts.ensures (rw c.close.ensures.size (omega (arith, rows_there asks, c.scan-pass.auto.rows)))
     (omega (arith, asks.enough, c.scan-pass.auto.w)) (omega (arith, sorts_there asks, c.scan-pass.auto.s))
@@ -141,7 +141,7 @@ least-unsettled-requires c =
 pub returns-then-unsettled-lt4096 : goal.returns-then-unsettled-lt4096
 returns-then-unsettled-lt4096 c =
     let asks = c.requires.judge_asks in
-    let fine = no_fault _ c.requires.t_value c.scan-pass.ensures asks.few asks.roomy c.if-pass-ne0.false in
+    let fine = no_fault _ c.requires.right_length c.scan-pass.ensures asks.few asks.roomy c.if-pass-ne0.false in
     let known = declared fine c.first_unknown-unknown.ensures c.if-unknown-t.false in
     let left =
     left_9 fine c.first_unknown-unknown.ensures c.if-unknown-t.false c.first_none-none.ensures c.if-none-lt2.false
@@ -154,7 +154,7 @@ returns-then-unsettled-lt4096 c =
 pub returns : goal.returns
 returns c =
     let asks = c.requires.judge_asks in
-    let fine = no_fault _ c.requires.t_value c.scan-pass.ensures asks.few asks.roomy c.if-pass-ne0.false in
+    let fine = no_fault _ c.requires.right_length c.scan-pass.ensures asks.few asks.roomy c.if-pass-ne0.false in
     let known = declared fine c.first_unknown-unknown.ensures c.if-unknown-t.false in
     let left =
     left_9 fine c.first_unknown-unknown.ensures c.if-unknown-t.false c.first_none-none.ensures c.if-none-lt2.false

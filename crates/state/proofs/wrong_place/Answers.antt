@@ -10,11 +10,14 @@ use Rattle.state.proofs.wrong_place.Goals as goal
 -- The two bytes that are read are the last of the place's record.
 pub returns-then-image-p-ne0 : goal.returns-then-image-p-ne0
 unfolding wrong_place_by
-returns-then-image-p-ne0 c = rw (third_at c.args.image.now c.args.p (omega (arith, c.requires.p_bound)), ne_eqb _ 0 c.if-image-p-ne0.true)
+returns-then-image-p-ne0 c =
+    rw (third_at c.args.image.now c.args.p (omega (arith, c.requires.p_bound)), ne_eqb _ 0 c.if-image-p-ne0.true)
 
 pub returns-then-image-p-ne0-2 : goal.returns-then-image-p-ne0-2
 unfolding wrong_place_by
-returns-then-image-p-ne0-2 c = rw (fourth_at c.args.image.now c.args.p (omega (arith, c.requires.p_bound)), ne_eqb _ 0 c.if-image-p-ne0-2.true, or-true)
+returns-then-image-p-ne0-2 c =
+    rw (fourth_at c.args.image.now c.args.p (omega (arith, c.requires.p_bound)), ne_eqb _ 0 c.if-image-p-ne0-2.true,
+    or-true)
 
 pub returns-then-number-eq0 : goal.returns-then-number-eq0
 unfolding wrong_place_by

@@ -27,7 +27,8 @@ returns-then-limit-number c = rw (← c.number.ensures.value, lt-ltb _ _ c.if-li
 
 pub returns-then-image-t-ne0 : goal.returns-then-image-t-ne0
 unfolding wrong_transition_by
-returns-then-image-t-ne0 c = rw (transition_fourth c.args.image.now c.args.t c.requires.t_bound, ne_eqb _ 0 c.if-image-t-ne0.true, or-true)
+returns-then-image-t-ne0 c =
+    rw (transition_fourth c.args.image.now c.args.t c.requires.t_bound, ne_eqb _ 0 c.if-image-t-ne0.true, or-true)
 
 pub returns-then-order-gt1 : goal.returns-then-order-gt1
 unfolding wrong_transition_by

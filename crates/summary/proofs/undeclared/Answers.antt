@@ -30,7 +30,8 @@ loop-r-preserved c =
           (ap₂ (λ (kind one : ℕ). eqb kind 2 && eqb one k) read.kind read.one)
           ∙ struck_more (bit 18446744073709551615 k) (some at.r (λ q. is (table t) 2 q && eqb ((table t).one q) k))
           (is (table t) 2 at.r && eqb ((table t).one at.r) k)
-          ∙ ap (λ (n : ℕ). bit 18446744073709551615 k && not (some n (λ q. is (table t) 2 q && eqb ((table t).one q) k)))
+          ∙ ap (λ (n : ℕ). bit 18446744073709551615 k && not (some n (λ q. is (table t) 2 q && eqb ((table t).one q)
+          k)))
           (sym (add-one at.r)),
     )
 

@@ -38,7 +38,7 @@ tally-moved-requires c =
     let a = c.args in
     let laid = c.requires.laid in
     let poises = c.requires.poised in
-    let on_are = on_bit laid _ _ _ _ _ poises.levels_hold c.gather-seen.ensures.by_index c.less-on.ensures in
+    let on_are = on_bit laid _ _ _ _ _ poises.levels_hold c.gather-seen.ensures.held c.less-on.ensures in
     let ables =
     able_are laid a.tokens.now a.counters.now a.orders _ on_are c.fall-ready.ensures.raises
     poises.counters_low _ _ _ c.fall-ready.ensures.ready c.firable-able.ensures in
@@ -65,7 +65,7 @@ settle-settled-requires c =
     let a = c.args in
     let laid = c.requires.laid in
     let poises = c.requires.poised in
-    let on_are = on_bit laid _ _ _ _ _ poises.levels_hold c.gather-seen.ensures.by_index c.less-on.ensures in
+    let on_are = on_bit laid _ _ _ _ _ poises.levels_hold c.gather-seen.ensures.held c.less-on.ensures in
     let told :
     Told laid a.tokens.now a.counters.now a.orders a.word a.kept.now a.levels.now
     c.fall-ready.new.counters c.gather-seen.result.held c.gather-seen.result.actions
@@ -74,8 +74,8 @@ settle-settled-requires c =
     record {
       levels_hold = poises.levels_hold;
       tokens_low = poises.tokens_low;
-      shut_is = c.gather-seen.ensures.by_index;
-      shown_is = c.gather-seen.ensures.by_index_2;
+      shut_is = c.gather-seen.ensures.held;
+      shown_is = c.gather-seen.ensures.shown;
       on_is = c.less-on.ensures;
       counts = counts_are laid a.tokens.now a.counters.now a.orders _ on_are c.fall-ready.ensures.raises;
       ables =
@@ -104,12 +104,12 @@ returns c =
     c.less-on.result c.firable-able.result c.fired-fired.result c.tally-moved.new.taken c.tally-moved.new.put
     c.tally-moved.result =
     λ bs laid.
-    let on_are = on_bit laid _ _ _ _ _ poises.levels_hold c.gather-seen.ensures.by_index c.less-on.ensures in
+    let on_are = on_bit laid _ _ _ _ _ poises.levels_hold c.gather-seen.ensures.held c.less-on.ensures in
     record {
       levels_hold = poises.levels_hold;
       tokens_low = poises.tokens_low;
-      shut_is = c.gather-seen.ensures.by_index;
-      shown_is = c.gather-seen.ensures.by_index_2;
+      shut_is = c.gather-seen.ensures.held;
+      shown_is = c.gather-seen.ensures.shown;
       on_is = c.less-on.ensures;
       counts = counts_are laid a.tokens.now a.counters.now a.orders _ on_are fall;
       ables =
@@ -125,7 +125,7 @@ returns c =
       poised =
           poised laid (told _ laid) settles fall.size
           (counts_low laid a.tokens.now a.counters.now a.orders _
-          (on_bit laid _ _ _ _ _ poises.levels_hold c.gather-seen.ensures.by_index c.less-on.ensures) fall
+          (on_bit laid _ _ _ _ _ poises.levels_hold c.gather-seen.ensures.held c.less-on.ensures) fall
           poises.counters_low);
       sizes = (settles.tokens_size, fall.size);
     }

@@ -17,18 +17,23 @@ returns-then-wrong-lt192 c =
     ap (refused 10) found ∙ sym (lent_wrong _ _ _ _ _ c.if-image-ne768.false (rw (sym found) c.if-wrong-lt192.true))
 
 pub returns-then-words-ne0 : goal.returns-then-words-ne0
-returns-then-words-ne0 c = sym (lent_odd _ _ _ _ _ c.if-image-ne768.false (reached 192 _ c.first_wrong-wrong.ensures c.if-wrong-lt192.false) c.if-words-ne0.true)
+returns-then-words-ne0 c =
+    sym (lent_odd _ _ _ _ _ c.if-image-ne768.false (reached 192 _ c.first_wrong-wrong.ensures c.if-wrong-lt192.false)
+    c.if-words-ne0.true)
 
 pub returns-then-words-gt4096 : goal.returns-then-words-gt4096
 returns-then-words-gt4096 c =
-    sym (lent_many _ _ _ _ _ c.if-image-ne768.false (reached 192 _ c.first_wrong-wrong.ensures c.if-wrong-lt192.false) c.if-words-gt4096.true)
+    sym (lent_many _ _ _ _ _ c.if-image-ne768.false (reached 192 _ c.first_wrong-wrong.ensures c.if-wrong-lt192.false)
+    c.if-words-gt4096.true)
 
 pub returns-then-report-words : goal.returns-then-report-words
 returns-then-report-words c =
     let fits = reached 192 _ c.first_wrong-wrong.ensures c.if-wrong-lt192.false in
-    sym (lent_short _ _ _ _ _ c.if-image-ne768.false fits c.if-words-ne0.false c.if-words-gt4096.false c.if-report-words.true)
+    sym (lent_short _ _ _ _ _ c.if-image-ne768.false fits c.if-words-ne0.false c.if-words-gt4096.false
+    c.if-report-words.true)
 
 pub returns : goal.returns
 returns c =
     let fits = reached 192 _ c.first_wrong-wrong.ensures c.if-wrong-lt192.false in
-    sym (lent_fine _ _ _ _ _ c.if-image-ne768.false fits c.if-words-ne0.false c.if-words-gt4096.false c.if-report-words.false)
+    sym (lent_fine _ _ _ _ _ c.if-image-ne768.false fits c.if-words-ne0.false c.if-words-gt4096.false
+    c.if-report-words.false)

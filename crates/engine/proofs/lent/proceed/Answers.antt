@@ -8,7 +8,8 @@ pub judge_lent-lent-requires : goal.judge_lent-lent-requires
 judge_lent-lent-requires c = c.requires.of.net_of.few
 
 pub returns-then-lent-ne0 : goal.returns-then-lent-ne0
-returns-then-lent-ne0 c = record { ran = λ bs of. refused_by_lent bs _ _ _ of c.judge_lent-lent.ensures c.if-lent-ne0.true }
+returns-then-lent-ne0 c =
+    record { ran = λ bs of. refused_by_lent bs _ _ _ of c.judge_lent-lent.ensures c.if-lent-ne0.true }
 
 pub play-told-requires : goal.play-told-requires
 play-told-requires c =
@@ -22,5 +23,6 @@ returns c =
     record {
       ran =
           λ bs of.
-          ran_through bs _ _ _ of none c.play-told.result _ _ (c.play-told.ensures.ends bs (plays of (ready bs _ _ _ of none)));
+          ran_through bs _ _ _ of none c.play-told.result _ _ (c.play-told.ensures.ends bs (plays of (ready bs _ _ _
+          of none)));
     }

@@ -12,7 +12,8 @@ use Rattle.summary.proofs.flow.moves.Given as goal
 -- What the first records move at a place.
 abbrev pub so_far : List ℕ → ℕ → List ℕ → ℕ → ℕ → ℕ
 so_far t sort s p r =
-    sum r (λ q. cond (arc (table t) sort q && eqb ((table t).one q) p) ((table t).four q * times_of s ((table t).two q)) 0)
+    sum r (λ q. cond (arc (table t) sort q && eqb ((table t).one q) p) ((table t).four q * times_of s ((table t).two
+    q)) 0)
 
 abbrev pub invariant-loop-r : goal.invariant-loop-r
 invariant-loop-r l =
