@@ -68,47 +68,71 @@ returns c =
 
 pub overflow_mul-t : goal.overflow_mul-t
 overflow_mul-t c =
-    omega (arith, (lowest_in c.loop-left.left c.lowest-t.result c.loop-left.invariant.small c.loop-left-test.true
-    c.lowest-t.ensures).0)
+    omega (
+      arith,
+      (lowest_in c.loop-left.left c.lowest-t.result c.loop-left.invariant.small c.loop-left-test.true
+          c.lowest-t.ensures).0,
+    )
 
 pub overflow_add-t : goal.overflow_add-t
 overflow_add-t c =
-    omega (arith, (lowest_in c.loop-left.left c.lowest-t.result c.loop-left.invariant.small c.loop-left-test.true
-    c.lowest-t.ensures).0)
+    omega (
+      arith,
+      (lowest_in c.loop-left.left c.lowest-t.result c.loop-left.invariant.small c.loop-left-test.true
+          c.lowest-t.ensures).0,
+    )
 
 pub offset_bounds-rows-t : goal.offset_bounds-rows-t
 offset_bounds-rows-t c =
-    omega (arith, (lowest_in c.loop-left.left c.lowest-t.result c.loop-left.invariant.small c.loop-left-test.true
-    c.lowest-t.ensures).0)
+    omega (
+      arith,
+      (lowest_in c.loop-left.left c.lowest-t.result c.loop-left.invariant.small c.loop-left-test.true
+          c.lowest-t.ensures).0,
+    )
 
 pub bounds-rows-t : goal.bounds-rows-t
 bounds-rows-t c =
-    omega (arith, (c.requires.rows_there c.lowest-t.result (lowest_in c.loop-left.left c.lowest-t.result
-    c.loop-left.invariant.small c.loop-left-test.true c.lowest-t.ensures).0 (c.loop-left.invariant.asking
-    c.lowest-t.result (lowest_in c.loop-left.left c.lowest-t.result c.loop-left.invariant.small c.loop-left-test.true
-    c.lowest-t.ensures).1)))
+    omega (
+      arith,
+      (c.requires.rows_there c.lowest-t.result (lowest_in c.loop-left.left c.lowest-t.result
+          c.loop-left.invariant.small c.loop-left-test.true c.lowest-t.ensures).0 (c.loop-left.invariant.asking
+          c.lowest-t.result (lowest_in c.loop-left.left c.lowest-t.result c.loop-left.invariant.small c.loop-left-test.true
+          c.lowest-t.ensures).1)),
+    )
 
 pub overflow_mul-t-in-loop-left : goal.overflow_mul-t-in-loop-left
 overflow_mul-t-in-loop-left c =
-    omega (arith, (lowest_in c.loop-left.left c.lowest-t.result c.loop-left.invariant.small c.loop-left-test.true
-    c.lowest-t.ensures).0)
+    omega (
+      arith,
+      (lowest_in c.loop-left.left c.lowest-t.result c.loop-left.invariant.small c.loop-left-test.true
+          c.lowest-t.ensures).0,
+    )
 
 pub overflow_add-t-in-loop-left : goal.overflow_add-t-in-loop-left
 overflow_add-t-in-loop-left c =
-    omega (arith, (lowest_in c.loop-left.left c.lowest-t.result c.loop-left.invariant.small c.loop-left-test.true
-    c.lowest-t.ensures).0)
+    omega (
+      arith,
+      (lowest_in c.loop-left.left c.lowest-t.result c.loop-left.invariant.small c.loop-left-test.true
+          c.lowest-t.ensures).0,
+    )
 
 pub offset_bounds-rows-t-in-loop-left : goal.offset_bounds-rows-t-in-loop-left
 offset_bounds-rows-t-in-loop-left c =
-    omega (arith, (lowest_in c.loop-left.left c.lowest-t.result c.loop-left.invariant.small c.loop-left-test.true
-    c.lowest-t.ensures).0)
+    omega (
+      arith,
+      (lowest_in c.loop-left.left c.lowest-t.result c.loop-left.invariant.small c.loop-left-test.true
+          c.lowest-t.ensures).0,
+    )
 
 pub bounds-rows-t-in-loop-left : goal.bounds-rows-t-in-loop-left
 bounds-rows-t-in-loop-left c =
-    omega (arith, (c.requires.rows_there c.lowest-t.result (lowest_in c.loop-left.left c.lowest-t.result
-    c.loop-left.invariant.small c.loop-left-test.true c.lowest-t.ensures).0 (c.loop-left.invariant.asking
-    c.lowest-t.result (lowest_in c.loop-left.left c.lowest-t.result c.loop-left.invariant.small c.loop-left-test.true
-    c.lowest-t.ensures).1)))
+    omega (
+      arith,
+      (c.requires.rows_there c.lowest-t.result (lowest_in c.loop-left.left c.lowest-t.result
+          c.loop-left.invariant.small c.loop-left-test.true c.lowest-t.ensures).0 (c.loop-left.invariant.asking
+          c.lowest-t.result (lowest_in c.loop-left.left c.lowest-t.result c.loop-left.invariant.small c.loop-left-test.true
+          c.lowest-t.ensures).1)),
+    )
 
 pub single-requires : goal.single-requires
 single-requires c =

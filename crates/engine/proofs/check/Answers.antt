@@ -9,8 +9,14 @@ returns-then-bad_length c = record { answer_is = sym (answer_1 _ (sym c.bad_leng
 pub check_small-requires : goal.check_small-requires
 check_small-requires c =
     let few = c.is_small.ensures c.if-is_small.true in
-    record { right_length = sym c.bad_length.ensures ∙ c.if-bad_length.false; roomy = (c.numbers-n.ensures.0, few.0,
-    few.1) }
+    record {
+      right_length = sym c.bad_length.ensures ∙ c.if-bad_length.false;
+      roomy = (
+        c.numbers-n.ensures.0,
+        few.0,
+        few.1,
+      );
+    }
 
 pub check_large-requires : goal.check_large-requires
 check_large-requires c =

@@ -39,17 +39,29 @@ loop-t-preserved c =
     let l = c.loop-t in
     let added = c.wide-taken.ensures in (
       c.lowest-t-in-loop-t.ensures,
-      omega (arith, l.invariant.1, taken_out l.left l.t _ l.invariant.0 c.loop-t-test.true c.rest-left.ensures (λ k.
-      get_or row k 0)),
-      omega (arith, l.invariant.2, taken_out l.left l.t _ l.invariant.0 c.loop-t-test.true c.rest-left.ensures (λ k.
-      1)),
+      omega (
+        arith,
+        l.invariant.1,
+        taken_out l.left l.t _ l.invariant.0 c.loop-t-test.true c.rest-left.ensures (λ k.
+            get_or row k 0),
+      ),
+      omega (
+        arith,
+        l.invariant.2,
+        taken_out l.left l.t _ l.invariant.0 c.loop-t-test.true c.rest-left.ensures (λ k.
+            1),
+      ),
     )
 
 pub returns : goal.returns
 returns c =
     let l = c.loop-t in (
-      omega (arith, l.invariant.1, over_none l.left l.t (λ k. get_or c.args.row.now k 0) l.invariant.0
-      c.loop-t-test.false),
+      omega (
+        arith,
+        l.invariant.1,
+        over_none l.left l.t (λ k. get_or c.args.row.now k 0) l.invariant.0
+            c.loop-t-test.false,
+      ),
       omega (arith, l.invariant.2),
     )
 

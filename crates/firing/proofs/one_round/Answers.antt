@@ -20,9 +20,11 @@ loop-todo-init c =
 
 -- The member that is taken is below 64, and in what is to come.
 pub fires-requires : goal.fires-requires
-fires-requires c =
-    ((lowest_in c.loop-todo.todo c.lowest-t.result c.loop-todo.invariant.small c.loop-todo-test.true
-    c.lowest-t.ensures).0, c.requires)
+fires-requires c = (
+  (lowest_in c.loop-todo.todo c.lowest-t.result c.loop-todo.invariant.small c.loop-todo-test.true
+      c.lowest-t.ensures).0,
+  c.requires,
+)
 
 pub loop-todo-smaller : goal.loop-todo-smaller
 loop-todo-smaller c =
@@ -71,23 +73,35 @@ returns c =
 
 pub overflow_mul-above : goal.overflow_mul-above
 overflow_mul-above c =
-    omega (arith, (lowest_in c.loop-todo.todo c.lowest-t.result c.loop-todo.invariant.small c.loop-todo-test.true
-    c.lowest-t.ensures).0)
+    omega (
+      arith,
+      (lowest_in c.loop-todo.todo c.lowest-t.result c.loop-todo.invariant.small c.loop-todo-test.true
+          c.lowest-t.ensures).0,
+    )
 
 pub overflow_add-above : goal.overflow_add-above
 overflow_add-above c =
-    omega (arith, (lowest_in c.loop-todo.todo c.lowest-t.result c.loop-todo.invariant.small c.loop-todo-test.true
-    c.lowest-t.ensures).0)
+    omega (
+      arith,
+      (lowest_in c.loop-todo.todo c.lowest-t.result c.loop-todo.invariant.small c.loop-todo-test.true
+          c.lowest-t.ensures).0,
+    )
 
 pub offset_bounds-arcs-t : goal.offset_bounds-arcs-t
 offset_bounds-arcs-t c =
-    omega (arith, (lowest_in c.loop-todo.todo c.lowest-t.result c.loop-todo.invariant.small c.loop-todo-test.true
-    c.lowest-t.ensures).0)
+    omega (
+      arith,
+      (lowest_in c.loop-todo.todo c.lowest-t.result c.loop-todo.invariant.small c.loop-todo-test.true
+          c.lowest-t.ensures).0,
+    )
 
 pub bounds-arcs-t : goal.bounds-arcs-t
 bounds-arcs-t c =
-    omega (arith, (lowest_in c.loop-todo.todo c.lowest-t.result c.loop-todo.invariant.small c.loop-todo-test.true
-    c.lowest-t.ensures).0)
+    omega (
+      arith,
+      (lowest_in c.loop-todo.todo c.lowest-t.result c.loop-todo.invariant.small c.loop-todo-test.true
+          c.lowest-t.ensures).0,
+    )
 
 pub single-requires : goal.single-requires
 single-requires c =

@@ -82,48 +82,75 @@ returns c = sym (c.loop-left.invariant.2 ∙ nothing c.loop-left.left _ c.loop-l
 
 pub overflow_add-p : goal.overflow_add-p
 overflow_add-p c =
-    omega (arith, (lowest_in c.loop-left.left c.lowest.result c.loop-left.invariant.0 c.loop-left-test.true
-    c.lowest.ensures).0)
+    omega (
+      arith,
+      (lowest_in c.loop-left.left c.lowest.result c.loop-left.invariant.0 c.loop-left-test.true
+          c.lowest.ensures).0,
+    )
 
 pub overflow_mul-takers : goal.overflow_mul-takers
 overflow_mul-takers c =
-    omega (arith, (lowest_in c.loop-left.left c.lowest.result c.loop-left.invariant.0 c.loop-left-test.true
-    c.lowest.ensures).0)
+    omega (
+      arith,
+      (lowest_in c.loop-left.left c.lowest.result c.loop-left.invariant.0 c.loop-left-test.true
+          c.lowest.ensures).0,
+    )
 
 pub overflow_add-takers : goal.overflow_add-takers
 overflow_add-takers c =
-    omega (arith, (lowest_in c.loop-left.left c.lowest.result c.loop-left.invariant.0 c.loop-left-test.true
-    c.lowest.ensures).0)
+    omega (
+      arith,
+      (lowest_in c.loop-left.left c.lowest.result c.loop-left.invariant.0 c.loop-left-test.true
+          c.lowest.ensures).0,
+    )
 
 pub offset_bounds-rows-p : goal.offset_bounds-rows-p
 offset_bounds-rows-p c =
-    omega (arith, (lowest_in c.loop-left.left c.lowest.result c.loop-left.invariant.0 c.loop-left-test.true
-    c.lowest.ensures).0)
+    omega (
+      arith,
+      (lowest_in c.loop-left.left c.lowest.result c.loop-left.invariant.0 c.loop-left-test.true
+          c.lowest.ensures).0,
+    )
 
 pub bounds-rows-p : goal.bounds-rows-p
 bounds-rows-p c =
-    omega (arith, (let k = (lowest_in c.loop-left.left c.lowest.result c.loop-left.invariant.0 c.loop-left-test.true
-    c.lowest.ensures) in c.requires.2.sets_in c.lowest.result k.0 (c.loop-left.invariant.1 c.lowest.result k.1)))
+    omega (
+      arith,
+      (let k = (lowest_in c.loop-left.left c.lowest.result c.loop-left.invariant.0 c.loop-left-test.true
+          c.lowest.ensures) in c.requires.2.sets_in c.lowest.result k.0 (c.loop-left.invariant.1 c.lowest.result k.1)),
+    )
 
 pub offset_bounds-w-p : goal.offset_bounds-w-p
 offset_bounds-w-p c =
-    omega (arith, (lowest_in c.loop-left.left c.lowest.result c.loop-left.invariant.0 c.loop-left-test.true
-    c.lowest.ensures).0)
+    omega (
+      arith,
+      (lowest_in c.loop-left.left c.lowest.result c.loop-left.invariant.0 c.loop-left-test.true
+          c.lowest.ensures).0,
+    )
 
 pub offset_bounds-tokens-p : goal.offset_bounds-tokens-p
 offset_bounds-tokens-p c =
-    omega (arith, (lowest_in c.loop-left.left c.lowest.result c.loop-left.invariant.0 c.loop-left-test.true
-    c.lowest.ensures).0)
+    omega (
+      arith,
+      (lowest_in c.loop-left.left c.lowest.result c.loop-left.invariant.0 c.loop-left-test.true
+          c.lowest.ensures).0,
+    )
 
 pub bounds-tokens-p : goal.bounds-tokens-p
 bounds-tokens-p c =
-    omega (arith, (lowest_in c.loop-left.left c.lowest.result c.loop-left.invariant.0 c.loop-left-test.true
-    c.lowest.ensures).0)
+    omega (
+      arith,
+      (lowest_in c.loop-left.left c.lowest.result c.loop-left.invariant.0 c.loop-left-test.true
+          c.lowest.ensures).0,
+    )
 
 pub offset_bounds-w-p-then-takers-ne0 : goal.offset_bounds-w-p-then-takers-ne0
 offset_bounds-w-p-then-takers-ne0 c =
-    omega (arith, (lowest_in c.loop-left.left c.lowest.result c.loop-left.invariant.0 c.loop-left-test.true
-    c.lowest.ensures).0)
+    omega (
+      arith,
+      (lowest_in c.loop-left.left c.lowest.result c.loop-left.invariant.0 c.loop-left-test.true
+          c.lowest.ensures).0,
+    )
 
 pub offset_bounds-w-t : goal.offset_bounds-w-t
 offset_bounds-w-t c = omega arith
@@ -133,18 +160,27 @@ bounds-w-t c = omega arith
 
 pub offset_bounds-s-p : goal.offset_bounds-s-p
 offset_bounds-s-p c =
-    omega (arith, (lowest_in c.loop-left.left c.lowest.result c.loop-left.invariant.0 c.loop-left-test.true
-    c.lowest.ensures).0)
+    omega (
+      arith,
+      (lowest_in c.loop-left.left c.lowest.result c.loop-left.invariant.0 c.loop-left-test.true
+          c.lowest.ensures).0,
+    )
 
 pub bounds-s-t : goal.bounds-s-t
 bounds-s-t c = omega arith
 
 pub bounds-w-p-then-takers-ne0 : goal.bounds-w-p-then-takers-ne0
 bounds-w-p-then-takers-ne0 c =
-    omega (arith, (let k = (lowest_in c.loop-left.left c.lowest.result c.loop-left.invariant.0 c.loop-left-test.true
-    c.lowest.ensures) in c.requires.2.weights_in c.lowest.result k.0 (c.loop-left.invariant.1 c.lowest.result k.1)))
+    omega (
+      arith,
+      (let k = (lowest_in c.loop-left.left c.lowest.result c.loop-left.invariant.0 c.loop-left-test.true
+          c.lowest.ensures) in c.requires.2.weights_in c.lowest.result k.0 (c.loop-left.invariant.1 c.lowest.result k.1)),
+    )
 
 pub bounds-s-p : goal.bounds-s-p
 bounds-s-p c =
-    omega (arith, (let k = (lowest_in c.loop-left.left c.lowest.result c.loop-left.invariant.0 c.loop-left-test.true
-    c.lowest.ensures) in c.requires.2.sorts_in c.lowest.result k.0 (c.loop-left.invariant.1 c.lowest.result k.1)))
+    omega (
+      arith,
+      (let k = (lowest_in c.loop-left.left c.lowest.result c.loop-left.invariant.0 c.loop-left-test.true
+          c.lowest.ensures) in c.requires.2.sorts_in c.lowest.result k.0 (c.loop-left.invariant.1 c.lowest.result k.1)),
+    )

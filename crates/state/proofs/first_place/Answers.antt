@@ -28,5 +28,9 @@ loop-p-preserved c =
 pub returns : goal.returns
 returns c =
     let at = c.loop-p in
-    record { within = omega arith; before = λ q l h. at.invariant.2 q l (omega arith); passes = λ h. absurd (omega
-    arith) }
+    record {
+      within = omega arith;
+      before = λ q l h. at.invariant.2 q l (omega arith);
+      passes = λ h. absurd (omega
+          arith);
+    }

@@ -25,5 +25,9 @@ loop-t-preserved c =
 pub returns : goal.returns
 returns c =
     let at = c.loop-t in
-    record { within = omega arith; before = λ u l h. at.invariant.1 u l (omega arith); passes = λ h. absurd (omega
-    arith) }
+    record {
+      within = omega arith;
+      before = λ u l h. at.invariant.1 u l (omega arith);
+      passes = λ h. absurd (omega
+          arith);
+    }

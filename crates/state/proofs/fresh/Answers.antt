@@ -35,8 +35,12 @@ put_tokens-requires c =
     let sound = accepted_sound t at.invariant.3 in
     let kind : (table t).kind at.r ≡ 1 = sym (inside t at.r within).kind ∙ c.if-t-r-eq1.true in (
       omega (arith, within),
-      omega (arith, (inside t at.r within).one, (shown_place (of_kind (table t) at.r 1 (sound.shown at.r here)
-      kind)).0),
+      omega (
+        arith,
+        (inside t at.r within).one,
+        (shown_place (of_kind (table t) at.r 1 (sound.shown at.r here)
+            kind)).0,
+      ),
       ap length at.invariant.2 ∙ image_length _,
     )
 

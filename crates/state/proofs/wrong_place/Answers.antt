@@ -16,8 +16,11 @@ returns-then-image-p-ne0 c =
 pub returns-then-image-p-ne0-2 : goal.returns-then-image-p-ne0-2
 unfolding wrong_place_by
 returns-then-image-p-ne0-2 c =
-    rw (fourth_at c.args.image.now c.args.p (omega (arith, c.requires.p_bound)), ne_eqb _ 0 c.if-image-p-ne0-2.true,
-    or-true)
+    rw (
+      fourth_at c.args.image.now c.args.p (omega (arith, c.requires.p_bound)),
+      ne_eqb _ 0 c.if-image-p-ne0-2.true,
+      or-true,
+    )
 
 pub returns-then-number-eq0 : goal.returns-then-number-eq0
 unfolding wrong_place_by

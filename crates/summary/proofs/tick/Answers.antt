@@ -23,18 +23,28 @@ roomy x y false e h = omega (arith, e, h)
 
 pub overflow_add-at : goal.overflow_add-at
 overflow_add-at c =
-    omega (arith, (lowest_in c.loop-left.left c.lowest-at.result c.loop-left.invariant.0 c.loop-left-test.true
-    c.lowest-at.ensures).0)
+    omega (
+      arith,
+      (lowest_in c.loop-left.left c.lowest-at.result c.loop-left.invariant.0 c.loop-left-test.true
+          c.lowest-at.ensures).0,
+    )
 
 pub offset_bounds-counts-at : goal.offset_bounds-counts-at
 offset_bounds-counts-at c =
-    omega (arith, (lowest_in c.loop-left.left c.lowest-at.result c.loop-left.invariant.0 c.loop-left-test.true
-    c.lowest-at.ensures).0)
+    omega (
+      arith,
+      (lowest_in c.loop-left.left c.lowest-at.result c.loop-left.invariant.0 c.loop-left-test.true
+          c.lowest-at.ensures).0,
+    )
 
 pub bounds-counts-at : goal.bounds-counts-at
 bounds-counts-at c =
-    omega (arith, (lowest_in c.loop-left.left c.lowest-at.result c.loop-left.invariant.0 c.loop-left-test.true
-    c.lowest-at.ensures).0, c.loop-left.invariant.1)
+    omega (
+      arith,
+      (lowest_in c.loop-left.left c.lowest-at.result c.loop-left.invariant.0 c.loop-left-test.true
+          c.lowest-at.ensures).0,
+      c.loop-left.invariant.1,
+    )
 
 pub overflow_add-counts : goal.overflow_add-counts
 overflow_add-counts c =
@@ -48,13 +58,20 @@ overflow_add-counts c =
 
 pub offset_bounds-counts-at-in-loop-left : goal.offset_bounds-counts-at-in-loop-left
 offset_bounds-counts-at-in-loop-left c =
-    omega (arith, (lowest_in c.loop-left.left c.lowest-at.result c.loop-left.invariant.0 c.loop-left-test.true
-    c.lowest-at.ensures).0)
+    omega (
+      arith,
+      (lowest_in c.loop-left.left c.lowest-at.result c.loop-left.invariant.0 c.loop-left-test.true
+          c.lowest-at.ensures).0,
+    )
 
 pub bounds-counts-at-in-loop-left : goal.bounds-counts-at-in-loop-left
 bounds-counts-at-in-loop-left c =
-    omega (arith, (lowest_in c.loop-left.left c.lowest-at.result c.loop-left.invariant.0 c.loop-left-test.true
-    c.lowest-at.ensures).0, c.loop-left.invariant.1)
+    omega (
+      arith,
+      (lowest_in c.loop-left.left c.lowest-at.result c.loop-left.invariant.0 c.loop-left-test.true
+          c.lowest-at.ensures).0,
+      c.loop-left.invariant.1,
+    )
 
 pub loop-left-smaller : goal.loop-left-smaller
 loop-left-smaller c =

@@ -28,8 +28,10 @@ loop-p-preserved c =
     let a = c.args in
     let low = c.requires at.p c.loop-p-test.true in
     let fits =
-    difference_fits (get_or a.put.now at.p 0) (get_or a.taken.now at.p 0) (omega (arith, low.0)) (omega (arith,
-    low.1)) in
+    difference_fits (get_or a.put.now at.p 0) (get_or a.taken.now at.p 0) (omega (arith, low.0)) (omega (
+      arith,
+      low.1,
+    )) in
     let stored : to_z w64 (of_z w64 c.less.result) ≡ pos (get_or a.put.now at.p 0) -ℤ pos (get_or a.taken.now at.p 0) =
     to_z-of_z {w = w64} (subst (SFits w64) (sym c.less.ensures) fits) ∙ c.less.ensures in (
       omega (arith, c.loop-p-test.true),

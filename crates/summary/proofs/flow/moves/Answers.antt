@@ -33,8 +33,13 @@ shift-requires c =
           λ k.
           let low = start.requires.low_arcs at.r (omega (arith, turn.loop-r-test.true)) (sym x.kind ∙ k) in
           (omega (arith, x.one, low.0), omega (arith, x.two, low.1));
-      room = λ p h. omega (arith, at.invariant.3 p h, at.invariant.0, start.requires.t_len_bound,
-      turn.loop-r-test.true);
+      room = λ p h. omega (
+        arith,
+        at.invariant.3 p h,
+        at.invariant.0,
+        start.requires.t_len_bound,
+        turn.loop-r-test.true,
+      );
     }
 
 pub loop-r-preserved : goal.loop-r-preserved
