@@ -76,17 +76,17 @@ abbrev pub IsTimed : Table → ℕ → Type 0
 IsTimed tb t = (r : ℕ) × (Timed tb t 1 r ⊎ Timed tb t 2 r)
 
 -- It is enabled and has no reset order.
-abbrev pub Goes_on : Table → State → ℕ → Type 0
-Goes_on tb s t = Enabled tb s.tokens t × (s.order t ≡ false)
+abbrev pub GoesOn : Table → State → ℕ → Type 0
+GoesOn tb s t = Enabled tb s.tokens t × (s.order t ≡ false)
 
 -- Rules 3 to 6: the counter of transition t after the falling edge. The source lets a counter without a b rise
 -- for ever; that it stays at a is the page's own rule. An untimed transition's counter stays.
 pub data Counter (tb : Table) (s : State) (t : ℕ) : ℕ → Type 0 where
   rule_3 : IsTimed tb t → Enabled tb s.tokens t → s.order t ≡ true → Counter tb s t 1
-  rule_4 : {a b : ℕ} → Between tb t a b → Goes_on tb s t → s.counter t ≤ b → Counter tb s t (suc (s.counter t))
-  rule_5 : {a b : ℕ} → Between tb t a b → Goes_on tb s t → b < s.counter t → Counter tb s t (s.counter t)
-  rule_4_from : {a : ℕ} → From tb t a → Goes_on tb s t → s.counter t < a → Counter tb s t (suc (s.counter t))
-  ours_at_a : {a : ℕ} → From tb t a → Goes_on tb s t → a ≤ s.counter t → Counter tb s t (s.counter t)
+  rule_4 : {a b : ℕ} → Between tb t a b → GoesOn tb s t → s.counter t ≤ b → Counter tb s t (suc (s.counter t))
+  rule_5 : {a b : ℕ} → Between tb t a b → GoesOn tb s t → b < s.counter t → Counter tb s t (s.counter t)
+  rule_4_from : {a : ℕ} → From tb t a → GoesOn tb s t → s.counter t < a → Counter tb s t (suc (s.counter t))
+  ours_at_a : {a : ℕ} → From tb t a → GoesOn tb s t → a ≤ s.counter t → Counter tb s t (s.counter t)
   rule_6 : IsTimed tb t → ¬ Enabled tb s.tokens t → Counter tb s t 0
   untimed : ¬ IsTimed tb t → Counter tb s t (s.counter t)
 

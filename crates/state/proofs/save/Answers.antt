@@ -20,14 +20,14 @@ pub loop-left-init : goal.loop-left-init
 loop-left-init c =
     let a = c.args in
     let s : State = held a.tokens.now a.counters.now a.orders in
-    (omega arith, λ t e. e, c.save_numbers.ensures ∙ but_all s a.orders (λ t. refl))
+    (c.save_numbers.ensures ∙ but_all s a.orders (λ t. refl), λ t e. e, omega arith)
 
 -- The member that is taken is below 64, and in what is left.
 pub order-requires : goal.order-requires
 order-requires c =
     let at = c.loop-left in
-    let member = lowest_in at.left c.lowest.result at.invariant.0 c.loop-left-test.true c.lowest.ensures in
-    (ap length at.invariant.2 ∙ image_length _, member.0)
+    let member = lowest_in at.left c.lowest.result at.invariant.2 c.loop-left-test.true c.lowest.ensures in
+    (ap length at.invariant.0 ∙ image_length _, member.0)
 
 -- What the rest is: all that is left but the member.
 taken : (left lowest rest : ℕ) → lowest ≡ first 64 (bit left)
@@ -38,27 +38,27 @@ taken left lowest rest is less j = less j ∙ ap (λ (k : ℕ). bit left j && no
 pub loop-left-smaller : goal.loop-left-smaller
 loop-left-smaller c =
     let at = c.loop-left in
-    let member = lowest_in at.left c.lowest.result at.invariant.0 c.loop-left-test.true c.lowest.ensures in
+    let member = lowest_in at.left c.lowest.result at.invariant.2 c.loop-left-test.true c.lowest.ensures in
     falls at.left c.lowest.result c.rest-left.result (taken at.left _ _ c.lowest.ensures c.rest-left.ensures)
-    at.invariant.0 (omega arith) member.1
+    at.invariant.2 (omega arith) member.1
 
 pub loop-left-preserved : goal.loop-left-preserved
 loop-left-preserved c =
     let at = c.loop-left in
     let a = c.args in
     let s : State = held a.tokens.now a.counters.now a.orders in
-    let member = lowest_in at.left c.lowest.result at.invariant.0 c.loop-left-test.true c.lowest.ensures in
+    let member = lowest_in at.left c.lowest.result at.invariant.2 c.loop-left-test.true c.lowest.ensures in
     let less = taken at.left _ _ c.lowest.ensures c.rest-left.ensures in (
-      omega arith,
-      λ t e. at.invariant.1 t (and_left (bit at.left t) _ (sym (less t) ∙ e)),
       c.order.ensures
-          ∙ ap (λ (bs : List ℕ). set bs (512 + 4 * c.lowest.result + 2) 1) at.invariant.2
+          ∙ ap (λ (bs : List ℕ). set bs (512 + 4 * c.lowest.result + 2) 1) at.invariant.0
           ∙ but_one s at.left c.rest-left.result c.lowest.result member.0
           (at.invariant.1 _ member.1) member.1 less,
+      λ t e. at.invariant.1 t (and_left (bit at.left t) _ (sym (less t) ∙ e)),
+      omega arith,
     )
 
 pub returns : goal.returns
 returns c =
     let a = c.args in
     let s : State = held a.tokens.now a.counters.now a.orders in
-    c.loop-left.invariant.2 ∙ but_none s c.loop-left.left c.loop-left-test.false
+    c.loop-left.invariant.0 ∙ but_none s c.loop-left.left c.loop-left-test.false

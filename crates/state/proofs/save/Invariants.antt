@@ -9,8 +9,8 @@ use Rattle.state.proofs.save.Given as goal
 
 abbrev pub invariant-loop-left : goal.invariant-loop-left
 invariant-loop-left l =
-    (l.left < 2 ^ 64) × ((t : ℕ) → bit l.left t ≡ true → bit l.orders t ≡ true)
-    × (l.image ≡ image_bytes (but (held l.tokens l.counters l.orders) l.left))
+    (l.image ≡ image_bytes (but (held l.tokens l.counters l.orders) l.left))
+    × ((t : ℕ) → bit l.left t ≡ true → bit l.orders t ≡ true) × (l.left < 2 ^ 64)
 
 abbrev pub decreases-loop-left : goal.decreases-loop-left
 decreases-loop-left l = l.left
