@@ -25,7 +25,7 @@ def read(file):
 
 
 antt, rattle, known = {}, {}, set(WORDS)
-for file in glob.glob("crates/*/[!o]*/**/*.antt", recursive=True):  # what rt keeps in out/ is no source
+for file in glob.glob("crates/*/specs/**/*.antt", recursive=True) + glob.glob("crates/*/proofs/**/*.antt", recursive=True):
     text = read(file)
     names = set(re.findall(rf"^\s*(?:(?:abbrev|unfoldable|pub)\s+)*({NAME})\s+:", text, re.M))
     names |= set(re.findall(rf"^\s*(?:pub )?(?:record|data) ({NAME})", text, re.M))

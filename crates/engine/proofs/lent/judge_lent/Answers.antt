@@ -1,5 +1,6 @@
 -- Each way out is the first check that finds something, behind those that found nothing.
 use mathlib.Core.Path.{sym, ap, ◌∙◌}
+use native.Mathlib.Omega.{arith}
 use Rattle.meaning.specs.Answer.{refused}
 use Rattle.judge.proofs.Answers.{reached}
 use Rattle.engine.proofs.Beside.{lent_long, lent_wrong, lent_odd, lent_many, lent_short, lent_fine}
@@ -24,16 +25,16 @@ returns-then-words-ne0 c =
 pub returns-then-words-gt4096 : goal.returns-then-words-gt4096
 returns-then-words-gt4096 c =
     sym (lent_many _ _ _ _ _ c.if-image-ne768.false (reached 192 _ c.first_wrong-wrong.ensures c.if-wrong-lt192.false)
-    c.if-words-gt4096.true)
+    (omega (arith, c.if-words-gt4096.true)))
 
 pub returns-then-report-words : goal.returns-then-report-words
 returns-then-report-words c =
     let fits = reached 192 _ c.first_wrong-wrong.ensures c.if-wrong-lt192.false in
-    sym (lent_short _ _ _ _ _ c.if-image-ne768.false fits c.if-words-ne0.false c.if-words-gt4096.false
+    sym (lent_short _ _ _ _ _ c.if-image-ne768.false fits c.if-words-ne0.false (omega (arith, c.if-words-gt4096.false))
     c.if-report-words.true)
 
 pub returns : goal.returns
 returns c =
     let fits = reached 192 _ c.first_wrong-wrong.ensures c.if-wrong-lt192.false in
-    sym (lent_fine _ _ _ _ _ c.if-image-ne768.false fits c.if-words-ne0.false c.if-words-gt4096.false
+    sym (lent_fine _ _ _ _ _ c.if-image-ne768.false fits c.if-words-ne0.false (omega (arith, c.if-words-gt4096.false))
     c.if-report-words.false)
