@@ -18,6 +18,8 @@ os.chdir(sys.argv[1] if len(sys.argv) > 1 else ".")
 STAY = {"bit-or", "bit-and"}
 # Names that another rule decides: a net is a value that has the page's letter, and the library's getD is get_or.
 OWN = {"N-unsettled": "N_unsettled", "getD-listed": "get_or_listed"}
+# A type that port.py itself gave an underscore.
+AGAIN = {"Goes_on": "GoesOn"}
 
 WORD = re.compile(r"(?<![\w'′₀-])([^\W\d_][\w'′]*(?:-[\w'′]+)+)(?![\w'′-])")
 MARKS = r"(?:(?:abbrev|unfoldable|pub|record|data|module)\s+)*"
@@ -132,6 +134,8 @@ turned = 0
 for file in antt + rattle:
     text = read(file)
     new = turn(file, text)
+    for name, type_name in AGAIN.items():
+        new = re.sub(rf"\b{name}\b", type_name, new)
     if new != text:
         turned += 1
         write(file, new)
