@@ -14,7 +14,7 @@ import sys
 os.chdir(sys.argv[1])
 NAME = r"[^\W\d][\w'-]*"
 WORDS = set(
-    """rt antt u8 u16 u32 u64 usize i32 bool mut requires ensures where now unfolding omega search needs ptr
+    """rt antt u8 u16 u32 u64 usize i32 bool mut requires ensures where now unfolding omega search
     net.bin words.bin report.bin image.bin csv raw name help cpu qemu64 O3 c11 must-fail target""".split()
 )
 

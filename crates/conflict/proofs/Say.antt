@@ -62,7 +62,7 @@ module _ {tb : Table} {n : ℕ} {rows : List ℕ} {w s : List (List ℕ)} {heads
   unfolding in_unsettled
   none_unsettled i h m = rw (none_intro 64 (unsettled tb i) (λ j l. before_first i j h l (omega arith)), and-false)
 
-  -- A transition in an unsettled pair is declared, and in_unsettled.
+  -- A transition of an unsettled pair is declared, and so it is in one.
   one_unsettled : (i j : ℕ) → j < 64 → unsettled tb i j ≡ true → in_unsettled tb i ≡ true
   unfolding in_unsettled
   one_unsettled i j l e =
@@ -70,8 +70,8 @@ module _ {tb : Table} {n : ℕ} {rows : List ℕ} {w s : List (List ℕ)} {heads
       and_true ((transition_decides tb i).1 (arc_transition tb whole.declared c.3))
       (some_intro 64 (unsettled tb i) j l e)
 
-  -- The first candidate is the least unsettled pair: the least transition that in_unsettled, and the least that it
-  -- in_unsettled with.
+  -- The first candidate is the least unsettled pair: the least transition that is in one, and the least that it is in
+  -- one with.
   pub least_pair : first 4096 (unsettled_by pairs rows w s n) < 4096
       → (first 64 (in_unsettled tb) < 64)
       × (first 4096 (unsettled_by pairs rows w s n)
@@ -101,6 +101,6 @@ module _ {tb : Table} {n : ℕ} {rows : List ℕ} {w s : List (List ℕ)} {heads
           first_is 64 (unsettled tb (k / 64)) (k % 64) (omega arith) first_unsettled
           (λ j l. before_first (k / 64) j (omega arith) (omega arith) (omega arith))
 
-  -- Where there is no candidate nothing in_unsettled.
+  -- Where there is no candidate no transition is in an unsettled pair.
   pub no_pair : first 4096 (unsettled_by pairs rows w s n) ≡ 4096 → (i : ℕ) → i < 64 → in_unsettled tb i ≡ false
   no_pair e i h = none_unsettled i h (omega arith)

@@ -17,25 +17,25 @@ loop-left-init c = (omega arith, c.requires, λ i j. refl)
 pub bounds-pairs-i : goal.bounds-pairs-i
 bounds-pairs-i c =
     let at = c.loop-left.invariant in
-    let taker = lowest_in c.loop-left.left c.lowest-i.result at.0 c.loop-left-test.true c.lowest-i.ensures in
+    let taker = lowest_in _ _ at.0 c.loop-left-test.true c.lowest-i.ensures in
     omega (arith, taker.0)
 
 pub offset_bounds-pairs-i : goal.offset_bounds-pairs-i
 offset_bounds-pairs-i c =
     let at = c.loop-left.invariant in
-    let taker = lowest_in c.loop-left.left c.lowest-i.result at.0 c.loop-left-test.true c.lowest-i.ensures in
+    let taker = lowest_in _ _ at.0 c.loop-left-test.true c.lowest-i.ensures in
     omega (arith, taker.0)
 
 pub bounds-pairs-i-in-loop-left : goal.bounds-pairs-i-in-loop-left
 bounds-pairs-i-in-loop-left c =
     let at = c.loop-left.invariant in
-    let taker = lowest_in c.loop-left.left c.lowest-i.result at.0 c.loop-left-test.true c.lowest-i.ensures in
+    let taker = lowest_in _ _ at.0 c.loop-left-test.true c.lowest-i.ensures in
     omega (arith, taker.0)
 
 pub offset_bounds-pairs-i-in-loop-left : goal.offset_bounds-pairs-i-in-loop-left
 offset_bounds-pairs-i-in-loop-left c =
     let at = c.loop-left.invariant in
-    let taker = lowest_in c.loop-left.left c.lowest-i.result at.0 c.loop-left-test.true c.lowest-i.ensures in
+    let taker = lowest_in _ _ at.0 c.loop-left-test.true c.lowest-i.ensures in
     omega (arith, taker.0)
 
 pub loop-left-smaller : goal.loop-left-smaller

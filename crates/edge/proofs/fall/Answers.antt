@@ -16,19 +16,19 @@ loop-left-init c =
 -- The member that is taken is below 64, and in what is left.
 pub single-requires : goal.single-requires
 single-requires c =
-    (lowest_in c.loop-left.left c.lowest-t.result c.loop-left.invariant.low c.loop-left-test.true c.lowest-t.ensures).0
+    (lowest_in _ _ c.loop-left.invariant.low c.loop-left-test.true c.lowest-t.ensures).0
 
 pub loop-left-smaller : goal.loop-left-smaller
 loop-left-smaller c =
     let at = c.loop-left in
     falls at.left _ c.rest-left.result (without _ _ _ c.lowest-t.ensures c.rest-left.ensures) at.invariant.low
-    (omega arith) (lowest_in c.loop-left.left c.lowest-t.result c.loop-left.invariant.low c.loop-left-test.true
+    (omega arith) (lowest_in _ _ c.loop-left.invariant.low c.loop-left-test.true
     c.lowest-t.ensures).1
 
 pub loop-left-preserved : goal.loop-left-preserved
 loop-left-preserved c =
     let at = c.loop-left in
-    let k = (lowest_in c.loop-left.left c.lowest-t.result c.loop-left.invariant.low c.loop-left-test.true
+    let k = (lowest_in _ _ c.loop-left.invariant.low c.loop-left-test.true
     c.lowest-t.ensures) in
     let on = c.has.ensures in
     let walked =
@@ -64,144 +64,69 @@ returns c =
 
 pub offset_bounds-counters-t : goal.offset_bounds-counters-t
 offset_bounds-counters-t c =
-    omega (
-      arith,
-      (lowest_in c.loop-left.left c.lowest-t.result c.loop-left.invariant.low c.loop-left-test.true
-          c.lowest-t.ensures).0,
-    )
+    omega (arith, (lowest_in _ _ c.loop-left.invariant.low c.loop-left-test.true c.lowest-t.ensures).0)
 
 pub bounds-counters-t : goal.bounds-counters-t
 bounds-counters-t c =
-    omega (
-      arith,
-      (lowest_in c.loop-left.left c.lowest-t.result c.loop-left.invariant.low c.loop-left-test.true
-          c.lowest-t.ensures).0,
-    )
+    omega (arith, (lowest_in _ _ c.loop-left.invariant.low c.loop-left-test.true c.lowest-t.ensures).0)
 
 pub overflow_mul-t : goal.overflow_mul-t
-overflow_mul-t c =
-    omega (
-      arith,
-      (lowest_in c.loop-left.left c.lowest-t.result c.loop-left.invariant.low c.loop-left-test.true
-          c.lowest-t.ensures).0,
-    )
+overflow_mul-t c = omega (arith, (lowest_in _ _ c.loop-left.invariant.low c.loop-left-test.true c.lowest-t.ensures).0)
 
 pub overflow_add-t : goal.overflow_add-t
-overflow_add-t c =
-    omega (
-      arith,
-      (lowest_in c.loop-left.left c.lowest-t.result c.loop-left.invariant.low c.loop-left-test.true
-          c.lowest-t.ensures).0,
-    )
+overflow_add-t c = omega (arith, (lowest_in _ _ c.loop-left.invariant.low c.loop-left-test.true c.lowest-t.ensures).0)
 
 pub offset_bounds-times-t : goal.offset_bounds-times-t
 offset_bounds-times-t c =
-    omega (
-      arith,
-      (lowest_in c.loop-left.left c.lowest-t.result c.loop-left.invariant.low c.loop-left-test.true
-          c.lowest-t.ensures).0,
-    )
+    omega (arith, (lowest_in _ _ c.loop-left.invariant.low c.loop-left-test.true c.lowest-t.ensures).0)
 
 pub bounds-times-t : goal.bounds-times-t
-bounds-times-t c =
-    omega (
-      arith,
-      (lowest_in c.loop-left.left c.lowest-t.result c.loop-left.invariant.low c.loop-left-test.true
-          c.lowest-t.ensures).0,
-    )
+bounds-times-t c = omega (arith, (lowest_in _ _ c.loop-left.invariant.low c.loop-left-test.true c.lowest-t.ensures).0)
 
 pub offset_bounds-counters-t-then-has : goal.offset_bounds-counters-t-then-has
 offset_bounds-counters-t-then-has c =
-    omega (
-      arith,
-      (lowest_in c.loop-left.left c.lowest-t.result c.loop-left.invariant.low c.loop-left-test.true
-          c.lowest-t.ensures).0,
-    )
+    omega (arith, (lowest_in _ _ c.loop-left.invariant.low c.loop-left-test.true c.lowest-t.ensures).0)
 
 pub bounds-counters-t-then-has : goal.bounds-counters-t-then-has
 bounds-counters-t-then-has c =
-    omega (
-      arith,
-      (lowest_in c.loop-left.left c.lowest-t.result c.loop-left.invariant.low c.loop-left-test.true
-          c.lowest-t.ensures).0,
-    )
+    omega (arith, (lowest_in _ _ c.loop-left.invariant.low c.loop-left-test.true c.lowest-t.ensures).0)
 
 pub overflow_mul-t-then-has : goal.overflow_mul-t-then-has
 overflow_mul-t-then-has c =
-    omega (
-      arith,
-      (lowest_in c.loop-left.left c.lowest-t.result c.loop-left.invariant.low c.loop-left-test.true
-          c.lowest-t.ensures).0,
-    )
+    omega (arith, (lowest_in _ _ c.loop-left.invariant.low c.loop-left-test.true c.lowest-t.ensures).0)
 
 pub overflow_add-t-then-has : goal.overflow_add-t-then-has
 overflow_add-t-then-has c =
-    omega (
-      arith,
-      (lowest_in c.loop-left.left c.lowest-t.result c.loop-left.invariant.low c.loop-left-test.true
-          c.lowest-t.ensures).0,
-    )
+    omega (arith, (lowest_in _ _ c.loop-left.invariant.low c.loop-left-test.true c.lowest-t.ensures).0)
 
 pub offset_bounds-times-t-then-has : goal.offset_bounds-times-t-then-has
 offset_bounds-times-t-then-has c =
-    omega (
-      arith,
-      (lowest_in c.loop-left.left c.lowest-t.result c.loop-left.invariant.low c.loop-left-test.true
-          c.lowest-t.ensures).0,
-    )
+    omega (arith, (lowest_in _ _ c.loop-left.invariant.low c.loop-left-test.true c.lowest-t.ensures).0)
 
 pub bounds-times-t-then-has : goal.bounds-times-t-then-has
 bounds-times-t-then-has c =
-    omega (
-      arith,
-      (lowest_in c.loop-left.left c.lowest-t.result c.loop-left.invariant.low c.loop-left-test.true
-          c.lowest-t.ensures).0,
-    )
+    omega (arith, (lowest_in _ _ c.loop-left.invariant.low c.loop-left-test.true c.lowest-t.ensures).0)
 
 pub overflow_mul-t-then-has-2 : goal.overflow_mul-t-then-has-2
 overflow_mul-t-then-has-2 c =
-    omega (
-      arith,
-      (lowest_in c.loop-left.left c.lowest-t.result c.loop-left.invariant.low c.loop-left-test.true
-          c.lowest-t.ensures).0,
-    )
+    omega (arith, (lowest_in _ _ c.loop-left.invariant.low c.loop-left-test.true c.lowest-t.ensures).0)
 
 pub overflow_add-t-then-has-2 : goal.overflow_add-t-then-has-2
 overflow_add-t-then-has-2 c =
-    omega (
-      arith,
-      (lowest_in c.loop-left.left c.lowest-t.result c.loop-left.invariant.low c.loop-left-test.true
-          c.lowest-t.ensures).0,
-    )
+    omega (arith, (lowest_in _ _ c.loop-left.invariant.low c.loop-left-test.true c.lowest-t.ensures).0)
 
 pub offset_bounds-times-t-then-has-2 : goal.offset_bounds-times-t-then-has-2
 offset_bounds-times-t-then-has-2 c =
-    omega (
-      arith,
-      (lowest_in c.loop-left.left c.lowest-t.result c.loop-left.invariant.low c.loop-left-test.true
-          c.lowest-t.ensures).0,
-    )
+    omega (arith, (lowest_in _ _ c.loop-left.invariant.low c.loop-left-test.true c.lowest-t.ensures).0)
 
 pub bounds-times-t-then-has-2 : goal.bounds-times-t-then-has-2
 bounds-times-t-then-has-2 c =
-    omega (
-      arith,
-      (lowest_in c.loop-left.left c.lowest-t.result c.loop-left.invariant.low c.loop-left-test.true
-          c.lowest-t.ensures).0,
-    )
+    omega (arith, (lowest_in _ _ c.loop-left.invariant.low c.loop-left-test.true c.lowest-t.ensures).0)
 
 pub offset_bounds-counters-t-else-has : goal.offset_bounds-counters-t-else-has
 offset_bounds-counters-t-else-has c =
-    omega (
-      arith,
-      (lowest_in c.loop-left.left c.lowest-t.result c.loop-left.invariant.low c.loop-left-test.true
-          c.lowest-t.ensures).0,
-    )
+    omega (arith, (lowest_in _ _ c.loop-left.invariant.low c.loop-left-test.true c.lowest-t.ensures).0)
 
 pub bounds-counters-t-else-has : goal.bounds-counters-t-else-has
 bounds-counters-t-else-has c =
-    omega (
-      arith,
-      (lowest_in c.loop-left.left c.lowest-t.result c.loop-left.invariant.low c.loop-left-test.true
-          c.lowest-t.ensures).0,
-    )
+    omega (arith, (lowest_in _ _ c.loop-left.invariant.low c.loop-left-test.true c.lowest-t.ensures).0)

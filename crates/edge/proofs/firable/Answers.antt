@@ -27,21 +27,21 @@ loop-left-init c =
 -- The member that is taken is below 64, and in what is left. It has conditions, so that its rows are there.
 pub asked-requires : goal.asked-requires
 asked-requires c =
-    λ k l. c.requires.looked_at c.lowest-t.result k (lowest_in c.loop-left.left c.lowest-t.result
-    c.loop-left.invariant.small c.loop-left-test.true c.lowest-t.ensures).0 l
+    let k = (lowest_in _ _ c.loop-left.invariant.small c.loop-left-test.true c.lowest-t.ensures) in
+    λ j l. c.requires.looked_at c.lowest-t.result j k.0 l
 
 pub loop-left-smaller : goal.loop-left-smaller
 loop-left-smaller c =
     let at = c.loop-left in
     falls at.left _ c.rest-left.result (without _ _ _ c.lowest-t.ensures c.rest-left.ensures) at.invariant.small
-    (omega arith) (lowest_in c.loop-left.left c.lowest-t.result c.loop-left.invariant.small c.loop-left-test.true
+    (omega arith) (lowest_in _ _ c.loop-left.invariant.small c.loop-left-test.true
     c.lowest-t.ensures).1
 
 pub loop-left-preserved : goal.loop-left-preserved
 loop-left-preserved c =
     let says = c.asked.ensures in
     let at = c.loop-left in
-    let k = (lowest_in c.loop-left.left c.lowest-t.result c.loop-left.invariant.small c.loop-left-test.true
+    let k = (lowest_in _ _ c.loop-left.invariant.small c.loop-left-test.true
     c.lowest-t.ensures) in
     let sifted =
     one_sifted at.left _ c.rest-left.result (without _ _ _ c.lowest-t.ensures c.rest-left.ensures)
@@ -68,73 +68,39 @@ returns c =
 
 pub overflow_mul-t : goal.overflow_mul-t
 overflow_mul-t c =
-    omega (
-      arith,
-      (lowest_in c.loop-left.left c.lowest-t.result c.loop-left.invariant.small c.loop-left-test.true
-          c.lowest-t.ensures).0,
-    )
+    omega (arith, (lowest_in _ _ c.loop-left.invariant.small c.loop-left-test.true c.lowest-t.ensures).0)
 
 pub overflow_add-t : goal.overflow_add-t
 overflow_add-t c =
-    omega (
-      arith,
-      (lowest_in c.loop-left.left c.lowest-t.result c.loop-left.invariant.small c.loop-left-test.true
-          c.lowest-t.ensures).0,
-    )
+    omega (arith, (lowest_in _ _ c.loop-left.invariant.small c.loop-left-test.true c.lowest-t.ensures).0)
 
 pub offset_bounds-rows-t : goal.offset_bounds-rows-t
 offset_bounds-rows-t c =
-    omega (
-      arith,
-      (lowest_in c.loop-left.left c.lowest-t.result c.loop-left.invariant.small c.loop-left-test.true
-          c.lowest-t.ensures).0,
-    )
+    omega (arith, (lowest_in _ _ c.loop-left.invariant.small c.loop-left-test.true c.lowest-t.ensures).0)
 
 pub bounds-rows-t : goal.bounds-rows-t
 bounds-rows-t c =
-    omega (
-      arith,
-      (c.requires.rows_there c.lowest-t.result (lowest_in c.loop-left.left c.lowest-t.result
-          c.loop-left.invariant.small c.loop-left-test.true c.lowest-t.ensures).0 (c.loop-left.invariant.asking
-          c.lowest-t.result (lowest_in c.loop-left.left c.lowest-t.result c.loop-left.invariant.small c.loop-left-test.true
-          c.lowest-t.ensures).1)),
-    )
+    let k = (lowest_in _ _ c.loop-left.invariant.small c.loop-left-test.true c.lowest-t.ensures) in
+    omega (arith, c.requires.rows_there c.lowest-t.result k.0 (c.loop-left.invariant.asking c.lowest-t.result k.1))
 
 pub overflow_mul-t-in-loop-left : goal.overflow_mul-t-in-loop-left
 overflow_mul-t-in-loop-left c =
-    omega (
-      arith,
-      (lowest_in c.loop-left.left c.lowest-t.result c.loop-left.invariant.small c.loop-left-test.true
-          c.lowest-t.ensures).0,
-    )
+    omega (arith, (lowest_in _ _ c.loop-left.invariant.small c.loop-left-test.true c.lowest-t.ensures).0)
 
 pub overflow_add-t-in-loop-left : goal.overflow_add-t-in-loop-left
 overflow_add-t-in-loop-left c =
-    omega (
-      arith,
-      (lowest_in c.loop-left.left c.lowest-t.result c.loop-left.invariant.small c.loop-left-test.true
-          c.lowest-t.ensures).0,
-    )
+    omega (arith, (lowest_in _ _ c.loop-left.invariant.small c.loop-left-test.true c.lowest-t.ensures).0)
 
 pub offset_bounds-rows-t-in-loop-left : goal.offset_bounds-rows-t-in-loop-left
 offset_bounds-rows-t-in-loop-left c =
-    omega (
-      arith,
-      (lowest_in c.loop-left.left c.lowest-t.result c.loop-left.invariant.small c.loop-left-test.true
-          c.lowest-t.ensures).0,
-    )
+    omega (arith, (lowest_in _ _ c.loop-left.invariant.small c.loop-left-test.true c.lowest-t.ensures).0)
 
 pub bounds-rows-t-in-loop-left : goal.bounds-rows-t-in-loop-left
 bounds-rows-t-in-loop-left c =
-    omega (
-      arith,
-      (c.requires.rows_there c.lowest-t.result (lowest_in c.loop-left.left c.lowest-t.result
-          c.loop-left.invariant.small c.loop-left-test.true c.lowest-t.ensures).0 (c.loop-left.invariant.asking
-          c.lowest-t.result (lowest_in c.loop-left.left c.lowest-t.result c.loop-left.invariant.small c.loop-left-test.true
-          c.lowest-t.ensures).1)),
-    )
+    let k = (lowest_in _ _ c.loop-left.invariant.small c.loop-left-test.true c.lowest-t.ensures) in
+    omega (arith, c.requires.rows_there c.lowest-t.result k.0 (c.loop-left.invariant.asking c.lowest-t.result k.1))
 
 pub single-requires : goal.single-requires
 single-requires c =
-    (lowest_in c.loop-left.left c.lowest-t.result c.loop-left.invariant.small c.loop-left-test.true
+    (lowest_in _ _ c.loop-left.invariant.small c.loop-left-test.true
     c.lowest-t.ensures).0

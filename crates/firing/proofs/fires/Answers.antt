@@ -8,21 +8,21 @@ use Rattle.firing.proofs.fires.Goals as goal
 pub returns-then-g-eq0 : goal.returns-then-g-eq0
 returns-then-g-eq0 c = sym (spared _ _ _ _ _ _ _ _ c.if-g-eq0.true)
 
-pub stopped_in-requires : goal.stopped_in-requires
-stopped_in-requires c =
-    let pre = c.requires in
-    (omega arith, pre.0, pre.1.low_in _ pre.0)
-
 pub returns-then-stopped_in : goal.returns-then-stopped_in
 unfolding left_enabled
 returns-then-stopped_in c = rw (← c.stopped_in.ensures, c.if-stopped_in.true)
-
-pub stopped_in-requires-2 : goal.stopped_in-requires-2
-stopped_in-requires-2 c =
-    let pre = c.requires in
-    (omega arith, pre.0, pre.1.high_in _ pre.0)
 
 pub returns : goal.returns
 unfolding left_enabled
 returns c =
     rw (← c.stopped_in.ensures, c.if-stopped_in.false, ← c.stopped_in-2.ensures)
+
+pub stopped_in-requires : goal.stopped_in-requires
+stopped_in-requires c =
+    let pre = c.requires in
+    (omega arith, pre.0, pre.1.low_in _ pre.0)
+
+pub stopped_in-requires-2 : goal.stopped_in-requires-2
+stopped_in-requires-2 c =
+    let pre = c.requires in
+    (omega arith, pre.0, pre.1.high_in _ pre.0)

@@ -21,7 +21,7 @@ loop-todo-init c =
 -- The member that is taken is below 64, and in what is to come.
 pub fires-requires : goal.fires-requires
 fires-requires c = (
-  (lowest_in c.loop-todo.todo c.lowest-t.result c.loop-todo.invariant.small c.loop-todo-test.true
+  (lowest_in _ _ c.loop-todo.invariant.small c.loop-todo-test.true
       c.lowest-t.ensures).0,
   c.requires,
 )
@@ -30,13 +30,13 @@ pub loop-todo-smaller : goal.loop-todo-smaller
 loop-todo-smaller c =
     let at = c.loop-todo in
     falls at.todo _ c.rest-todo.result (without _ _ _ c.lowest-t.ensures c.rest-todo.ensures) at.invariant.small
-    (omega arith) (lowest_in c.loop-todo.todo c.lowest-t.result c.loop-todo.invariant.small c.loop-todo-test.true
+    (omega arith) (lowest_in _ _ c.loop-todo.invariant.small c.loop-todo-test.true
     c.lowest-t.ensures).1
 
 pub loop-todo-preserved : goal.loop-todo-preserved
 loop-todo-preserved c =
     let at = c.loop-todo in
-    let k = (lowest_in c.loop-todo.todo c.lowest-t.result c.loop-todo.invariant.small c.loop-todo-test.true
+    let k = (lowest_in _ _ c.loop-todo.invariant.small c.loop-todo-test.true
     c.lowest-t.ensures) in
     let waits = c.meet.ensures in
     let walked =
@@ -73,42 +73,26 @@ returns c =
 
 pub overflow_mul-above : goal.overflow_mul-above
 overflow_mul-above c =
-    omega (
-      arith,
-      (lowest_in c.loop-todo.todo c.lowest-t.result c.loop-todo.invariant.small c.loop-todo-test.true
-          c.lowest-t.ensures).0,
-    )
+    omega (arith, (lowest_in _ _ c.loop-todo.invariant.small c.loop-todo-test.true c.lowest-t.ensures).0)
 
 pub overflow_add-above : goal.overflow_add-above
 overflow_add-above c =
-    omega (
-      arith,
-      (lowest_in c.loop-todo.todo c.lowest-t.result c.loop-todo.invariant.small c.loop-todo-test.true
-          c.lowest-t.ensures).0,
-    )
+    omega (arith, (lowest_in _ _ c.loop-todo.invariant.small c.loop-todo-test.true c.lowest-t.ensures).0)
 
 pub offset_bounds-arcs-t : goal.offset_bounds-arcs-t
 offset_bounds-arcs-t c =
-    omega (
-      arith,
-      (lowest_in c.loop-todo.todo c.lowest-t.result c.loop-todo.invariant.small c.loop-todo-test.true
-          c.lowest-t.ensures).0,
-    )
+    omega (arith, (lowest_in _ _ c.loop-todo.invariant.small c.loop-todo-test.true c.lowest-t.ensures).0)
 
 pub bounds-arcs-t : goal.bounds-arcs-t
 bounds-arcs-t c =
-    omega (
-      arith,
-      (lowest_in c.loop-todo.todo c.lowest-t.result c.loop-todo.invariant.small c.loop-todo-test.true
-          c.lowest-t.ensures).0,
-    )
+    omega (arith, (lowest_in _ _ c.loop-todo.invariant.small c.loop-todo-test.true c.lowest-t.ensures).0)
 
 pub single-requires : goal.single-requires
 single-requires c =
-    (lowest_in c.loop-todo.todo c.lowest-t.result c.loop-todo.invariant.small c.loop-todo-test.true
+    (lowest_in _ _ c.loop-todo.invariant.small c.loop-todo-test.true
     c.lowest-t.ensures).0
 
 pub single-requires-then-fires : goal.single-requires-then-fires
 single-requires-then-fires c =
-    (lowest_in c.loop-todo.todo c.lowest-t.result c.loop-todo.invariant.small c.loop-todo-test.true
+    (lowest_in _ _ c.loop-todo.invariant.small c.loop-todo-test.true
     c.lowest-t.ensures).0

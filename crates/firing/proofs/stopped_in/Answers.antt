@@ -37,14 +37,14 @@ loop-left-init c = (omega arith, λ p e. e, refl)
 -- The member that is taken is below 64, and in what is left. So it is in the word, and its place has its rows.
 pub bounds-w-p : goal.bounds-w-p
 bounds-w-p c =
-    (let k = (lowest_in c.loop-left.left c.lowest.result c.loop-left.invariant.0 c.loop-left-test.true
-    c.lowest.ensures) in c.requires.2.weights_in c.lowest.result k.0 (c.loop-left.invariant.1 c.lowest.result k.1))
+    let k = lowest_in _ _ c.loop-left.invariant.0 c.loop-left-test.true c.lowest.ensures in
+    c.requires.2.weights_in c.lowest.result k.0 (c.loop-left.invariant.1 c.lowest.result k.1)
 
 pub returns-then-stops : goal.returns-then-stops
 returns-then-stops c =
     let at = c.loop-left in
     let a = c.args in
-    let k = (lowest_in c.loop-left.left c.lowest.result c.loop-left.invariant.0 c.loop-left-test.true
+    let k = (lowest_in _ _ c.loop-left.invariant.0 c.loop-left-test.true
     c.lowest.ensures) in
     let here = asked a.tokens.now a.rows.now a.w.now a.s.now a.g a.t (a.from + c.lowest.result) in
     sym
@@ -56,7 +56,7 @@ pub loop-left-smaller : goal.loop-left-smaller
 loop-left-smaller c =
     let at = c.loop-left in
     falls at.left _ c.rest-left.result (λ j. rw c.lowest.ensures (c.rest-left.ensures j)) at.invariant.0
-    (omega arith) (lowest_in c.loop-left.left c.lowest.result c.loop-left.invariant.0 c.loop-left-test.true
+    (omega arith) (lowest_in _ _ c.loop-left.invariant.0 c.loop-left-test.true
     c.lowest.ensures).1
 
 pub loop-left-preserved : goal.loop-left-preserved
@@ -81,76 +81,38 @@ pub returns : goal.returns
 returns c = sym (c.loop-left.invariant.2 ∙ nothing c.loop-left.left _ c.loop-left-test.false)
 
 pub overflow_add-p : goal.overflow_add-p
-overflow_add-p c =
-    omega (
-      arith,
-      (lowest_in c.loop-left.left c.lowest.result c.loop-left.invariant.0 c.loop-left-test.true
-          c.lowest.ensures).0,
-    )
+overflow_add-p c = omega (arith, (lowest_in _ _ c.loop-left.invariant.0 c.loop-left-test.true c.lowest.ensures).0)
 
 pub overflow_mul-takers : goal.overflow_mul-takers
 overflow_mul-takers c =
-    omega (
-      arith,
-      (lowest_in c.loop-left.left c.lowest.result c.loop-left.invariant.0 c.loop-left-test.true
-          c.lowest.ensures).0,
-    )
+    omega (arith, (lowest_in _ _ c.loop-left.invariant.0 c.loop-left-test.true c.lowest.ensures).0)
 
 pub overflow_add-takers : goal.overflow_add-takers
 overflow_add-takers c =
-    omega (
-      arith,
-      (lowest_in c.loop-left.left c.lowest.result c.loop-left.invariant.0 c.loop-left-test.true
-          c.lowest.ensures).0,
-    )
+    omega (arith, (lowest_in _ _ c.loop-left.invariant.0 c.loop-left-test.true c.lowest.ensures).0)
 
 pub offset_bounds-rows-p : goal.offset_bounds-rows-p
 offset_bounds-rows-p c =
-    omega (
-      arith,
-      (lowest_in c.loop-left.left c.lowest.result c.loop-left.invariant.0 c.loop-left-test.true
-          c.lowest.ensures).0,
-    )
+    omega (arith, (lowest_in _ _ c.loop-left.invariant.0 c.loop-left-test.true c.lowest.ensures).0)
 
 pub bounds-rows-p : goal.bounds-rows-p
 bounds-rows-p c =
-    omega (
-      arith,
-      (let k = (lowest_in c.loop-left.left c.lowest.result c.loop-left.invariant.0 c.loop-left-test.true
-          c.lowest.ensures) in c.requires.2.sets_in c.lowest.result k.0 (c.loop-left.invariant.1 c.lowest.result k.1)),
-    )
+    let k = lowest_in _ _ c.loop-left.invariant.0 c.loop-left-test.true c.lowest.ensures in
+    omega (arith, c.requires.2.sets_in c.lowest.result k.0 (c.loop-left.invariant.1 c.lowest.result k.1))
 
 pub offset_bounds-w-p : goal.offset_bounds-w-p
-offset_bounds-w-p c =
-    omega (
-      arith,
-      (lowest_in c.loop-left.left c.lowest.result c.loop-left.invariant.0 c.loop-left-test.true
-          c.lowest.ensures).0,
-    )
+offset_bounds-w-p c = omega (arith, (lowest_in _ _ c.loop-left.invariant.0 c.loop-left-test.true c.lowest.ensures).0)
 
 pub offset_bounds-tokens-p : goal.offset_bounds-tokens-p
 offset_bounds-tokens-p c =
-    omega (
-      arith,
-      (lowest_in c.loop-left.left c.lowest.result c.loop-left.invariant.0 c.loop-left-test.true
-          c.lowest.ensures).0,
-    )
+    omega (arith, (lowest_in _ _ c.loop-left.invariant.0 c.loop-left-test.true c.lowest.ensures).0)
 
 pub bounds-tokens-p : goal.bounds-tokens-p
-bounds-tokens-p c =
-    omega (
-      arith,
-      (lowest_in c.loop-left.left c.lowest.result c.loop-left.invariant.0 c.loop-left-test.true
-          c.lowest.ensures).0,
-    )
+bounds-tokens-p c = omega (arith, (lowest_in _ _ c.loop-left.invariant.0 c.loop-left-test.true c.lowest.ensures).0)
 
 pub offset_bounds-w-p-then-takers-ne0 : goal.offset_bounds-w-p-then-takers-ne0
 offset_bounds-w-p-then-takers-ne0 c =
-    omega (
-      arith,
-      (lowest_in c.loop-left.left c.lowest.result c.loop-left.invariant.0 c.loop-left-test.true
-          c.lowest.ensures).0,
-    )
+    omega (arith, (lowest_in _ _ c.loop-left.invariant.0 c.loop-left-test.true c.lowest.ensures).0)
 
 pub offset_bounds-w-t : goal.offset_bounds-w-t
 offset_bounds-w-t c = omega arith
@@ -159,28 +121,17 @@ pub bounds-w-t : goal.bounds-w-t
 bounds-w-t c = omega arith
 
 pub offset_bounds-s-p : goal.offset_bounds-s-p
-offset_bounds-s-p c =
-    omega (
-      arith,
-      (lowest_in c.loop-left.left c.lowest.result c.loop-left.invariant.0 c.loop-left-test.true
-          c.lowest.ensures).0,
-    )
+offset_bounds-s-p c = omega (arith, (lowest_in _ _ c.loop-left.invariant.0 c.loop-left-test.true c.lowest.ensures).0)
 
 pub bounds-s-t : goal.bounds-s-t
 bounds-s-t c = omega arith
 
 pub bounds-w-p-then-takers-ne0 : goal.bounds-w-p-then-takers-ne0
 bounds-w-p-then-takers-ne0 c =
-    omega (
-      arith,
-      (let k = (lowest_in c.loop-left.left c.lowest.result c.loop-left.invariant.0 c.loop-left-test.true
-          c.lowest.ensures) in c.requires.2.weights_in c.lowest.result k.0 (c.loop-left.invariant.1 c.lowest.result k.1)),
-    )
+    let k = lowest_in _ _ c.loop-left.invariant.0 c.loop-left-test.true c.lowest.ensures in
+    omega (arith, c.requires.2.weights_in c.lowest.result k.0 (c.loop-left.invariant.1 c.lowest.result k.1))
 
 pub bounds-s-p : goal.bounds-s-p
 bounds-s-p c =
-    omega (
-      arith,
-      (let k = (lowest_in c.loop-left.left c.lowest.result c.loop-left.invariant.0 c.loop-left-test.true
-          c.lowest.ensures) in c.requires.2.sorts_in c.lowest.result k.0 (c.loop-left.invariant.1 c.lowest.result k.1)),
-    )
+    let k = lowest_in _ _ c.loop-left.invariant.0 c.loop-left-test.true c.lowest.ensures in
+    omega (arith, c.requires.2.sorts_in c.lowest.result k.0 (c.loop-left.invariant.1 c.lowest.result k.1))

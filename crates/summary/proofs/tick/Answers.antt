@@ -22,33 +22,24 @@ roomy x y true e h = omega (arith, e, h)
 roomy x y false e h = omega (arith, e, h)
 
 pub overflow_add-at : goal.overflow_add-at
-overflow_add-at c =
-    omega (
-      arith,
-      (lowest_in c.loop-left.left c.lowest-at.result c.loop-left.invariant.0 c.loop-left-test.true
-          c.lowest-at.ensures).0,
-    )
+overflow_add-at c = omega (arith, (lowest_in _ _ c.loop-left.invariant.0 c.loop-left-test.true c.lowest-at.ensures).0)
 
 pub offset_bounds-counts-at : goal.offset_bounds-counts-at
 offset_bounds-counts-at c =
-    omega (
-      arith,
-      (lowest_in c.loop-left.left c.lowest-at.result c.loop-left.invariant.0 c.loop-left-test.true
-          c.lowest-at.ensures).0,
-    )
+    omega (arith, (lowest_in _ _ c.loop-left.invariant.0 c.loop-left-test.true c.lowest-at.ensures).0)
 
 pub bounds-counts-at : goal.bounds-counts-at
 bounds-counts-at c =
     omega (
       arith,
-      (lowest_in c.loop-left.left c.lowest-at.result c.loop-left.invariant.0 c.loop-left-test.true
+      (lowest_in _ _ c.loop-left.invariant.0 c.loop-left-test.true
           c.lowest-at.ensures).0,
       c.loop-left.invariant.1,
     )
 
 pub overflow_add-counts : goal.overflow_add-counts
 overflow_add-counts c =
-    let m = (lowest_in c.loop-left.left c.lowest-at.result c.loop-left.invariant.0 c.loop-left-test.true
+    let m = (lowest_in _ _ c.loop-left.invariant.0 c.loop-left-test.true
     c.lowest-at.ensures) in
     let k = c.lowest-at.result in
     let next : k + 1 ≡ suc k = add-one k in
@@ -58,17 +49,13 @@ overflow_add-counts c =
 
 pub offset_bounds-counts-at-in-loop-left : goal.offset_bounds-counts-at-in-loop-left
 offset_bounds-counts-at-in-loop-left c =
-    omega (
-      arith,
-      (lowest_in c.loop-left.left c.lowest-at.result c.loop-left.invariant.0 c.loop-left-test.true
-          c.lowest-at.ensures).0,
-    )
+    omega (arith, (lowest_in _ _ c.loop-left.invariant.0 c.loop-left-test.true c.lowest-at.ensures).0)
 
 pub bounds-counts-at-in-loop-left : goal.bounds-counts-at-in-loop-left
 bounds-counts-at-in-loop-left c =
     omega (
       arith,
-      (lowest_in c.loop-left.left c.lowest-at.result c.loop-left.invariant.0 c.loop-left-test.true
+      (lowest_in _ _ c.loop-left.invariant.0 c.loop-left-test.true
           c.lowest-at.ensures).0,
       c.loop-left.invariant.1,
     )
@@ -77,13 +64,13 @@ pub loop-left-smaller : goal.loop-left-smaller
 loop-left-smaller c =
     let at = c.loop-left in
     falls at.left _ c.rest-left.result (without _ _ _ c.lowest-at.ensures c.rest-left.ensures) at.invariant.0
-    (omega arith) (lowest_in c.loop-left.left c.lowest-at.result c.loop-left.invariant.0 c.loop-left-test.true
+    (omega arith) (lowest_in _ _ c.loop-left.invariant.0 c.loop-left-test.true
     c.lowest-at.ensures).1
 
 pub loop-left-preserved : goal.loop-left-preserved
 loop-left-preserved c =
     let at = c.loop-left in
-    let m = (lowest_in c.loop-left.left c.lowest-at.result c.loop-left.invariant.0 c.loop-left-test.true
+    let m = (lowest_in _ _ c.loop-left.invariant.0 c.loop-left-test.true
     c.lowest-at.ensures) in (
       omega arith,
       length-set at.counts _ _ ∙ at.invariant.1,
