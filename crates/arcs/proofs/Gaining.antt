@@ -1,23 +1,23 @@
 -- Rivals are gained one above the other: the walk over those below u gives u to each that it meets, and the walk over
 -- all u gives each its rivals.
-use mathlib.Core.Bool.{Bool, true, false, not, ◌&&◌, ◌||◌, and-true, and-false, or-false}
+use mathlib.Core.Bool.{Bool, true, false, not, ◌&&◌, ◌||◌, or-false}
 use mathlib.Core.List.{List}
-use mathlib.Core.Path.{◌≡◌, refl, sym, ap, ◌∙◌}
-use Prim.Native.Nat.{ℕ, ◌+◌, ◌*◌, ◌^◌, ◌≤◌, ◌<◌}
+use mathlib.Core.Path.{◌≡◌, refl, sym, ◌∙◌}
+use Prim.Native.Nat.{ℕ, ◌+◌, ◌*◌, ◌≤◌, ◌<◌}
 use native.Mathlib.Numerals.{add-one}
 use native.Mathlib.Omega.{arith}
 use lib.Dec.{eqb, ltb}
 use lib.ListN.{length, get_or, set, length-set}
 use lib.Seq.{get_or-set_other}
-use borrow.Author.Tests.{eqb-true, le-ltb}
+use Rattle.std.proofs.lemmas.Bool.Decides.{nat_tests}
+use borrow.Author.Tests.{le-ltb}
 use Rattle.meaning.specs.Below.{some}
 use Rattle.meaning.specs.Bytes.{bit}
-use Rattle.meaning.proofs.Bool.{not_both, same_test}
-use Rattle.meaning.proofs.Below.{some_intro, some_elim}
 use Rattle.rows.specs.Rows.{inputs, takers, below}
 use Rattle.sets.proofs.Bits.{bit_zero}
-use Rattle.sets.proofs.Members.{kept}
-use Rattle.sets.proofs.Walk.{one_more, below_end}
+use Rattle.sets.proofs.Some.{some_short}
+use Rattle.sets.proofs.Taking.{kept}
+use Rattle.sets.proofs.Walk.{one_more}
 use Rattle.arcs.specs.Arcs.{rivals_of, Turned, meeting, rival, LowPairs, Rivals}
 use Rattle.arcs.proofs.Putting.{one_put}
 use Rattle.arcs.proofs.Meeting.{met, meeting_stays}
@@ -29,7 +29,6 @@ Stayed before after = (t c : ℕ) → c < 4 → get_or after (5 * t + c) 0 ≡ g
 -- Where the walk over those below u has come to, by where it began: who has u for a rival, or is left and meets it,
 -- has stayed the same.
 pub record Gains (u left₀ : ℕ) (arcs₀ : List ℕ) (lower₀ left : ℕ) (arcs : List ℕ) (lower : ℕ) : Type 0 where
-  pub small : left < 2 ^ 64
   pub size : length arcs ≡ 320
   pub places : Stayed arcs₀ arcs
   pub rivals : (t v : ℕ)
@@ -62,42 +61,22 @@ none_put u k arcs lower size =
     record { size = size; places = λ t c h. refl; rivals = λ t w. sym (or-false _); lowers = λ j. sym (or-false _) }
 
 -- A turn takes member k out of set a and leaves set b.
-pub one_gained : (a k b : ℕ) → ((j : ℕ) → bit b j ≡ (bit a j && not (eqb k j))) → bit a k ≡ true → k < 64 → b < 2 ^ 64
+pub one_gained : (a k b : ℕ) → ((j : ℕ) → bit b j ≡ (bit a j && not (eqb k j))) → bit a k ≡ true → k < 64
     → {u left₀ : ℕ} {arcs₀ : List ℕ} {lower₀ : ℕ} {arcs : List ℕ} {lower : ℕ} → Gains u left₀ arcs₀ lower₀ a arcs lower
     → (y : Bool)
     → y ≡ meeting arcs k u → (after : List ℕ) (more : ℕ) → Gained u k y arcs lower after more
     → Gains u left₀ arcs₀ lower₀ b after more
-one_gained a k b rest has low small {u} {left₀} {arcs₀} {lower₀} {arcs} {lower} w y says after more g =
+one_gained a k b rest has low {u} {left₀} {arcs₀} {lower₀} {arcs} {lower} w y says after more g =
     record {
-      small = small;
       size = g.size;
       places = λ t c h. g.places t c h ∙ w.places t c h;
-      rivals = λ t v. rw (g.rivals t v, rest t) (due t v (eqb k t) refl ∙ w.rivals t v);
+      rivals = λ t v. grind (arith, nat_tests, g.rivals t v, rest t, w.rivals t v, passes, has);
       lowers = λ t.
           kept a k b rest (λ t. meeting arcs₀ t u) lower more y has passes g.lowers t ∙ w.lowers t;
     }
   where
     passes : y ≡ meeting arcs₀ k u
     passes = says ∙ meeting_stays arcs arcs₀ w.places k u
-
-    now : (x y e : Bool) → ((x || ((y && true) && e)) || (((true && false) && y) && e)) ≡ (x || ((true && y) && e))
-    now x true e = or-false (x || e)
-    now x false e = or-false (x || false)
-
-    later : (x y b f e : Bool) → ((x || ((y && false) && e)) || (((b && true) && f) && e)) ≡ (x || ((b && f) && e))
-    later x y b f e = rw (and-false y, or-false x, and-true b)
-
-    due : (t v : ℕ) (z : Bool) → eqb k t ≡ z
-        → ((bit (rivals_of arcs t) v || ((y && z) && eqb u v))
-        || (((bit a t && not z) && meeting arcs₀ t u) && eqb u v))
-        ≡ (bit (rivals_of arcs t) v || ((bit a t && meeting arcs₀ t u) && eqb u v))
-    due t v true z =
-        rw (
-          sym (ap (bit a) (eqb-true k t z)) ∙ has,
-          sym (ap (λ (t : ℕ). meeting arcs₀ t u) (eqb-true k t z)) ∙ sym passes,
-        )
-        (now (bit (rivals_of arcs t) v) y (eqb u v))
-    due t v false z = later (bit (rivals_of arcs t) v) y (bit a t) (meeting arcs₀ t u) (eqb u v)
 
 -- Each transition has those of its rivals that are below u, and the set `lower` has those with such rivals.
 pub record GivenTo (rows arcs₀ : List ℕ) (u : ℕ) (arcs : List ℕ) (lower : ℕ) : Type 0 where
@@ -130,9 +109,7 @@ module _ {rows arcs₀ : List ℕ} (turned : Turned rows arcs₀) where
         rivals = λ t v h.
             sym (rw (e, bit_zero t) (or-false _)) ∙ g.rivals t v
             ∙ rw (w.rivals t v h, meets t h) (one_more (rival rows t) u v);
-        lowers = λ t h.
-            sym (rw (e, bit_zero t) (or-false _)) ∙ g.lowers t
-            ∙ rw (w.lowers t h, meets t h, add-one u);
+        lowers = λ t h. rw add-one (grind (arith, nat_tests, e, bit_zero t, g.lowers t, w.lowers t h, meets t h));
       }
     where
       meets : (t : ℕ) → t < 64 → meeting arcs t u ≡ some 128 (λ p. bit (inputs rows p) t && bit (takers rows p) u)
@@ -148,20 +125,9 @@ module _ {rows arcs₀ : List ℕ} (turned : Turned rows arcs₀) where
         high_is = λ t p h l. rw (w.places t 1 (omega arith)) (turned.high_is t p h l);
         takes_low_is = λ t p h l. rw (w.places t 2 (omega arith)) (turned.takes_low_is t p h l);
         takes_high_is = λ t p h l. rw (w.places t 3 (omega arith)) (turned.takes_high_is t p h l);
-        rivals_are = λ t v h l. w.rivals t v h ∙ below_end u (rival rows t) v (λ far. none t v h l far);
-        lower_is = λ t h. w.lowers t h ∙ same_test _ _ (λ e. up t e) (λ e. down t h e);
+        rivals_are = λ t v h l. grind (arith, nat_tests, w.rivals t v h, none t v h l);
+        lower_is = λ t h. w.lowers t h ∙ some_short u 64 (rival rows t) small (λ k far l. none t k h l far);
       }
     where
       none : (t v : ℕ) → t < 64 → v < 64 → u ≤ v → rival rows t v ≡ false
       none t v h l far = rw (few.none v t (omega arith) l h)
-
-      up : (t : ℕ) → some u (rival rows t) ≡ true → some 64 (rival rows t) ≡ true
-      up t e =
-          let k = some_elim u (rival rows t) e in
-          some_intro 64 (rival rows t) k.0 (omega (arith, k.1)) k.2
-
-      down : (t : ℕ) → t < 64 → some 64 (rival rows t) ≡ true → some u (rival rows t) ≡ true
-      down t h e =
-          let k = some_elim 64 (rival rows t) e in
-          let early : ¬ (u ≤ k.0) = λ far. not_both k.2 (none t k.0 h k.1 far) in
-          some_intro u (rival rows t) k.0 (omega arith) k.2

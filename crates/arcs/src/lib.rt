@@ -22,11 +22,9 @@ fn put(arcs: &mut [u64; 320], to: u64, k: usize, what: u64)
     requires { (k < 5) × (length arcs.old ≡ 320) }
     ensures { Put arcs.old to k what arcs.new }
 {
-    let mut left = to;
-    while left != 0 {
-        let at = 5 * sets::lowest(left) + k;
+    for t in sets::members(to) {
+        let at = 5 * t + k;
         arcs[at] = sets::union(arcs[at], what);
-        left = sets::rest(left);
     }
 }
 
@@ -36,13 +34,11 @@ pub fn turn(rows: &[u64], arcs: &mut [u64; 320], n: usize)
     requires empty { arcs.old ≡ replicate 320 0 }
     ensures { Turned rows.now arcs.new }
 {
-    let mut p = 0;
-    while p < n {
+    for p in 0..n {
         let here = sets::single(p % 64);
         let half = p / 64;
         put(arcs, rows[8 * p + INPUTS], LOW + half, here);
         put(arcs, rows[8 * p + TAKERS], TAKES + half, here);
-        p += 1;
     }
 }
 
@@ -54,6 +50,7 @@ fn common(a: u64, b: u64, c: u64, d: u64) -> bool
 }
 
 // Does u take from a place from which t has an input arc?
+#[tactic(auto, unfolding(crate::specs::Arcs::meeting))]
 fn meets(arcs: &[u64; 320], t: usize, u: usize) -> bool
     requires { (t < 64) × (u < 64) }
     ensures { result ≡ meeting arcs.now t u }
@@ -73,19 +70,14 @@ pub fn rivals(rows: &[u64], arcs: &mut [u64; 320], n: usize) -> u64
     ensures { Rivals rows.now arcs.new result }
 {
     let mut lower = 0u64;
-    let mut u = 0;
-    while u < n {
-        let mut left = rows[8 * u + BELOW];
-        while left != 0 {
-            let t = sets::lowest(left);
+    for u in 0..n {
+        for t in sets::members(rows[8 * u + BELOW]) {
             if meets(arcs, t, u) {
                 let at = 5 * t + RIVALS;
                 arcs[at] = sets::union(arcs[at], sets::single(u));
                 lower = sets::union(lower, sets::single(t));
             }
-            left = sets::rest(left);
         }
-        u += 1;
     }
     lower
 }

@@ -3,9 +3,8 @@
 use mathlib.Core.Bool.{true, false}
 use mathlib.Core.List.{List}
 use mathlib.Core.Logic.{⊎_elim}
-use mathlib.Core.Path.{◌≡◌, refl, sym, ap, ◌∙◌}
+use mathlib.Core.Path.{◌≡◌, sym, ap, ◌∙◌}
 use Prim.Native.Nat.{ℕ, ◌+◌, ◌*◌, ◌≤◌, ◌<◌}
-use native.Mathlib.Nat.{not-suc-le-zero}
 use native.Mathlib.Omega.{arith}
 use lib.Dec.{ltb}
 use lib.ListN.{length, length-set, set}
@@ -23,14 +22,6 @@ pub record Part (rows : List ℕ) (t : ℕ) (rows' : List ℕ) : Type 0 where
   pub others : OthersSame rows rows'
   pub later : (u : ℕ) → t ≤ u → below rows' u ≡ below rows u
   pub done : (u : ℕ) → u < t → Reached rows u (below rows' u)
-
-pub nobody : (rows : List ℕ) → Part rows 0 rows
-nobody rows = record {
-  size = refl;
-  others = λ c i h. refl;
-  later = λ u h. refl;
-  done = λ u h. absurd (not-suc-le-zero h);
-}
 
 module _ {rows now : List ℕ} {t : ℕ} (part : Part rows t now) where
   -- A pair of the rows as they are is a chain of those that were lent.

@@ -1,18 +1,18 @@
 -- The walk from t: whoever has been looked at has its row within all that is found, and each turn looks at one more.
-use mathlib.Core.Bool.{Bool, true, false, cond, not, ◌&&◌, ◌||◌, and-true}
+use mathlib.Core.Bool.{Bool, true, false, cond, not, ◌&&◌, ◌||◌}
 use mathlib.Core.List.{List}
 use mathlib.Core.Logic.{⊎_elim}
-use mathlib.Core.Path.{◌≡◌, refl, sym, ap, ◌∙◌}
+use mathlib.Core.Path.{◌≡◌, refl, sym, ◌∙◌}
 use Prim.Native.Nat.{ℕ, ◌+◌, ◌<◌}
 use native.Mathlib.Omega.{arith}
 use lib.Dec.{eqb}
-use borrow.Author.Tests.{eqb-true, eq-eqb, ne_eqb}
-use Rattle.meaning.specs.Below.{sum}
+use Rattle.std.proofs.lemmas.Bool.Decides.{nat_tests}
+use borrow.Author.Tests.{eq-eqb, ne_eqb}
+use Rattle.meaning.specs.Below.{sum, first}
 use Rattle.meaning.specs.Bytes.{bit}
-use Rattle.meaning.proofs.Bool.{not_both, and_left, or_cases, or_false_left, or_false_right, or_true_right}
-use Rattle.meaning.proofs.Below.{sum_same, sum_add}
+use Rattle.meaning.proofs.Bool.{not_both, and_left, or_cases}
+use Rattle.meaning.proofs.Below.{first_before, sum_same, sum_add}
 use Rattle.meaning.proofs.Sound.{sum_one}
-use Rattle.sets.proofs.Bits.{bit_zero}
 use Rattle.rows.specs.Rows.{below}
 use Rattle.closure.specs.Closure.{Chain, pair, chain, Reached}
 use Rattle.closure.proofs.Chains.{HasRow, has_chained}
@@ -36,10 +36,10 @@ set_out h =
     }
 
 -- With nobody left all are found.
-pub arrived : {rows : List ℕ} {t all left : ℕ} → Walk rows t all left → left ≡ 0 → Reached rows t all
-arrived {rows} {t} {all} walk e j h = (
+pub arrived : {rows : List ℕ} {t all left : ℕ} → Walk rows t all left → first 64 (bit left) ≡ 64 → Reached rows t all
+arrived {rows} {t} {all} {left} walk e j h = (
   walk.chained j h,
-  has_chained all (λ k i m. walk.looked k i m (ap (λ (x : ℕ). bit x k) e ∙ bit_zero k)) walk.begun,
+  has_chained all (λ k i m. walk.looked k i m (first_before 64 (bit left) k (rw e i))) walk.begun,
 )
 
 -- How many are not yet looked at.
@@ -66,11 +66,7 @@ module _ {rows : List ℕ} {t all left k all' left' : ℕ} (walk : Walk rows t a
   still j e = turn.found j ∙ rw e
 
   own_row : HasRow rows all' k
-  own_row j h e = turn.found j ∙ rw e (go (bit all j))
-    where
-      go : (b : Bool) → (b || not b) ≡ true
-      go true = refl
-      go false = refl
+  own_row j h e = grind (arith, nat_tests, turn.found j)
 
   -- The walk goes on.
   pub goes_on : Walk rows t all' left'
@@ -82,11 +78,7 @@ module _ {rows : List ℕ} {t all left k all' left' : ℕ} (walk : Walk rows t a
             λ j h e.
             ⊎_elim (walk.chained j h) (new j h)
             (or_cases (bit all j) (fresh rows all k j) (sym (turn.found j) ∙ e));
-        among =
-            λ j e.
-            ⊎_elim (λ l. still j (walk.among j (and_left (bit left j) (not (eqb k j)) l)))
-            (λ l. turn.found j ∙ or_true_right (bit all j) l)
-            (or_cases (bit left j && not (eqb k j)) (fresh rows all k j) (sym (turn.remain j) ∙ e));
+        among = λ j e. grind (arith, nat_tests, turn.found j, turn.remain j, walk.among j);
       }
     where
       new : (j : ℕ) → j < 64 → fresh rows all k j ≡ true → Chain rows t j
@@ -96,23 +88,8 @@ module _ {rows : List ℕ} {t all left k all' left' : ℕ} (walk : Walk rows t a
 
       -- Who is found and not left was found before, and not left or k.
       looked : (i : ℕ) → i < 64 → bit all' i ≡ true → bit left' i ≡ false → HasRow rows all' i
-      looked i h e out = go (eqb k i) refl
-        where
-          none : ((bit left i && not (eqb k i)) || fresh rows all k i) ≡ false
-          none = sym (turn.remain i) ∙ out
-
-          old : bit all i ≡ true
-          old =
-              ⊎_elim (λ z. z)
-              (λ z. not_both z (or_false_right (bit left i && not (eqb k i)) (fresh rows all k i) none))
-              (or_cases (bit all i) (fresh rows all k i) (sym (turn.found i) ∙ e))
-
-          go : (b : Bool) → eqb k i ≡ b → HasRow rows all' i
-          go true q = rw (← eqb-true k i q) own_row
-          go false q =
-              let gone : (bit left i && true) ≡ false =
-              rw q at (or_false_left (bit left i && not (eqb k i)) (fresh rows all k i) none) in
-              λ j l p. still j (walk.looked i h old (sym (and-true (bit left i)) ∙ gone) j l p)
+      looked i h e out j l p =
+          grind (arith, nat_tests, turn.found i, turn.remain i, walk.looked i h, still j, own_row j l)
 
   -- One more has been looked at.
   pub one_fewer : unlooked all' left' < unlooked all left
@@ -124,23 +101,5 @@ module _ {rows : List ℕ} {t all left k all' left' : ℕ} (walk : Walk rows t a
       ∙ rw (eq-eqb k k refl) in
       omega (arith, split, added, alone)
     where
-      -- Whether j is k, is left, is found and is in the row of k.
-      cases : (x l u r : Bool) → (x ≡ true → l ≡ true) → (l ≡ true → u ≡ true)
-          → cond (u && not l) 0 1 ≡ cond ((u || (r && not u)) && not ((l && not x) || (r && not u))) 0 1 + cond x 1 0
-      cases true true true true f g = refl
-      cases true true true false f g = refl
-      cases true true false r f g = not_both (g refl) refl
-      cases true false u r f g = not_both (f refl) refl
-      cases false true true true f g = refl
-      cases false true true false f g = refl
-      cases false true false r f g = not_both (g refl) refl
-      cases false false true true f g = refl
-      cases false false true false f g = refl
-      cases false false false true f g = refl
-      cases false false false false f g = refl
-
       one : (j : ℕ) → ahead all left j ≡ ahead all' left' j + cond (eqb k j) 1 0
-      one j =
-          rw (turn.found j, turn.remain j)
-          (cases (eqb k j) (bit left j) (bit all j) (bit (below rows k) j)
-          (λ e. ap (bit left) (sym (eqb-true k j e)) ∙ turn.member) (walk.among j))
+      one j = grind (arith, nat_tests, turn.found j, turn.remain j, turn.member, walk.among j)

@@ -1,8 +1,7 @@
 // The priorities closed within the rows: each transition gets all who stand below it, by a chain of written pairs.
 #![tactic(auto)]
 
-ghost use Rattle.std.specs.Prelude.{◌≡◌};
-ghost use Rattle.meaning.specs.Below.{first};
+ghost use Rattle.meaning.specs.Below.{IsFirst};
 ghost use Rattle.meaning.specs.Bytes.{bit};
 ghost use Rattle.rows.specs.Rows.{below};
 ghost use Rattle.closure.specs.Closure.{ReachAsks, Reached, LowPairs, Closes};
@@ -17,8 +16,7 @@ fn reached(rows: &[u64], t: usize) -> u64
 {
     let mut all = rows[8 * t + BELOW];
     let mut left = all;
-    while left != 0 {
-        let k = sets::lowest(left);
+    while let Some(k) = sets::lowest(left) {
         let more = sets::less(rows[8 * k + BELOW], all);
         all = sets::union(all, more);
         left = sets::union(sets::rest(left), more);
@@ -32,24 +30,15 @@ pub fn close(rows: &mut [u64], m: usize)
     requires { LowPairs m rows.old }
     ensures { Closes rows.old rows.new }
 {
-    let mut t = 0;
-    while t < m {
+    for t in 0..m {
         rows[8 * t + BELOW] = reached(rows, t);
-        t += 1;
     }
 }
 
-// The first transition that stands above itself, 64 if none does. From m on none stands above or below another.
-pub fn circle(rows: &[u64], m: usize) -> usize
+// The first transition that stands above itself, if one does. From m on none stands above or below another.
+pub fn circle(rows: &[u64], m: usize) -> Option<usize>
     requires { LowPairs m rows.now }
-    ensures { result ≡ first 64 (λ t. bit (below rows.now t) t) }
+    ensures { IsFirst 64 (λ t. bit (below rows.now t) t) result }
 {
-    let mut t = 0;
-    while t < m {
-        if sets::has(rows[8 * t + BELOW], t) {
-            return t;
-        }
-        t += 1;
-    }
-    64
+    (0..m).find(|&t| sets::has(rows[8 * t + BELOW], t))
 }

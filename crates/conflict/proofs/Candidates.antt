@@ -1,23 +1,23 @@
 -- Candidate 64i + j is the pair i, j: its quotient by 64 is i and its remainder j.
-use mathlib.Core.Bool.{Bool, true, false, not, ◌&&◌, and-false}
+use mathlib.Core.Bool.{Bool, true, false, not, ◌&&◌}
 use mathlib.Core.List.{List}
 use mathlib.Core.Logic.{⊎_elim}
-use mathlib.Core.Path.{◌≡◌, sym, ap, ◌∙◌}
+use mathlib.Core.Path.{◌≡◌, ◌∙◌}
 use Prim.Native.Nat.{ℕ, ◌+◌, ◌-◌, ◌*◌, ◌/◌, ◌%◌, ◌≤◌, ◌<◌}
 use native.Mathlib.Omega.{arith}
-use lib.Dec.{eqb, ltb}
+use lib.Dec.{ltb}
 use lib.ListN.{get_or}
+use Rattle.std.proofs.lemmas.Bool.Decides.{nat_tests}
 use borrow.Author.Tests.{ltb-true, ltb-false}
 use Rattle.meaning.specs.Below.{first}
 use Rattle.meaning.specs.Bytes.{bit}
 use Rattle.meaning.proofs.Bool.{either}
 use Rattle.meaning.proofs.Below.{first_is, first_none}
-use Rattle.sets.proofs.Members.{out_more}
 use Rattle.conflict.specs.Settled.{settled_in, unsettled_by}
 
 -- No number below n passes.
-abbrev pub None : (ℕ → Bool) → ℕ → Type 0
-None f n = (k : ℕ) → k < n → f k ≡ false
+abbrev pub NoneBelow : (ℕ → Bool) → ℕ → Type 0
+NoneBelow f n = (k : ℕ) → k < n → f k ≡ false
 
 -- A number is below n or it is not.
 below_or_not : {A : Type 0} (k n : ℕ) → (k < n → A) → (n ≤ k → A) → A
@@ -44,41 +44,25 @@ module _ (pairs rows : List ℕ) (w s : List (List ℕ)) (n : ℕ) where
   abbrev pub Out : ℕ → ℕ → Type 0
   Out i left = (j : ℕ) → j < 64 → bit left j ≡ false → unsettled_pair i j ≡ false
 
-  pub out_row : (i : ℕ) → Out i (get_or pairs i 0)
-  out_row i j h e = rw e
-
-  pub one_out : (i k left rest : ℕ) (r : Bool) → Out i left → ((j : ℕ) → bit rest j ≡ (bit left j && not (eqb k j)))
-      → r ≡ settled_in rows w s n i k → not r ≡ false → Out i rest
-  one_out i k left rest r out less e q j h z =
-      out_more left k rest less (λ j. j < 64 → unsettled_pair i j ≡ false) (λ j z h. out j h z)
-      (λ h. rw (← e, q) (and-false (bit (get_or pairs i 0) k))) j z h
-
   -- The candidates before 64i and those of i below j are settled, so none before 64i + j is.
-  pub up_to : (i j : ℕ) → j ≤ 64 → None candidate (64 * i) → ((k : ℕ) → k < j → unsettled_pair i k ≡ false)
-      → None candidate (64 * i + j)
+  pub up_to : (i j : ℕ) → j ≤ 64 → NoneBelow candidate (64 * i) → ((k : ℕ) → k < j → unsettled_pair i k ≡ false)
+      → NoneBelow candidate (64 * i + j)
   up_to i j h none row k l =
-      below_or_not k (64 * i) (none k)
-      (λ m.
-      let same : k ≡ 64 * i + (k - 64 * i) = omega arith in
-      ap candidate same ∙ candidate_at i (k - 64 * i) (omega arith) ∙ row (k - 64 * i) (omega arith))
+      let here = candidate_at i (k - 64 * i) in
+      grind (arith, nat_tests, none k, row (k - 64 * i), here)
 
-  -- A unsettled pair with none before it is the first; where there is none the answer is 4096.
-  pub found : (i j : ℕ) (r : Bool) → i < 64 → j < 64 → None candidate (64 * i + j) → bit (get_or pairs i 0) j ≡ true
-      → r ≡ settled_in rows w s n i j → not r ≡ true → 64 * i + j ≡ first 4096 candidate
+  -- An unsettled pair with none before it is the first; where there is none the first is 4096.
+  pub found : (i j : ℕ) (r : Bool) → i < 64 → j < 64 → NoneBelow candidate (64 * i + j)
+      → bit (get_or pairs i 0) j ≡ true
+      → r ≡ settled_in rows w s n i j → not r ≡ true → first 4096 candidate ≡ 64 * i + j
   found i j r h l none has e q =
-      sym (first_is 4096 candidate (64 * i + j) (omega arith) (candidate_at i j l ∙ rw (has, ← e, q)) none)
+      first_is 4096 candidate (64 * i + j) (omega arith) (candidate_at i j l ∙ rw (has, ← e, q)) none
 
-  pub not_found : (i r : ℕ) → ((k j : ℕ) → i ≤ k → k < 64 → j < 64 → bit (get_or pairs k 0) j ≡ false) → r ≡ 4096
-      → None candidate (64 * i)
-      → r ≡ first 4096 candidate
-  not_found i r blank e none =
-      e
-      ∙ sym
-      (first_none 4096 candidate
+  pub not_found : (i : ℕ) → ((k j : ℕ) → i ≤ k → k < 64 → j < 64 → bit (get_or pairs k 0) j ≡ false)
+      → NoneBelow candidate (64 * i)
+      → first 4096 candidate ≡ 4096
+  not_found i blank none =
+      first_none 4096 candidate
       (λ k l.
-      below_or_not k (64 * i) (none k)
-      (λ m.
-      let same : k ≡ 64 * (k / 64) + k % 64 = omega arith in
-      let low : k % 64 < 64 = omega arith in
-      ap candidate same ∙ candidate_at (k / 64) (k % 64) low
-      ∙ rw (blank (k / 64) (k % 64) (omega arith) (omega arith) low))))
+      let here = candidate_at (k / 64) (k % 64) in
+      grind (arith, nat_tests, none k, blank (k / 64) (k % 64), here))

@@ -1,8 +1,9 @@
 -- The three ways to settle a pair, read off the rows, and the pairs that nothing settles.
 use Rattle.std.specs.Prelude.{Bool, true, not, cond, ◌&&◌, ◌||◌, List, [], ◌≡◌, ℕ, ◌*◌, ◌/◌, ◌%◌, ◌≤◌, ◌<◌, eqb}
-use Rattle.std.specs.Prelude.{length, get_or}
-use Rattle.meaning.specs.Below.{some}
+use Rattle.std.specs.Prelude.{◌+◌, length, get_or, Option, MatchOption}
+use Rattle.meaning.specs.Below.{some, first}
 use Rattle.meaning.specs.Bytes.{bit}
+use Rattle.answers.specs.declared.Pair.{Pair}
 use Rattle.rows.specs.Rows.{inputs, looks, wanted_true, below, transitions_below}
 
 -- Transition t looks at condition k and wants it false.
@@ -35,6 +36,11 @@ settled_in rows w s n i j =
 unfoldable pub unsettled_by : List ℕ → List ℕ → List (List ℕ) → List (List ℕ) → ℕ → ℕ → Bool
 unsettled_by pairs rows w s n k =
     bit (get_or pairs (k / 64) 0) (k % 64) && not (settled_in rows w s n (k / 64) (k % 64))
+
+-- The least candidate as a pair, or that there is none.
+abbrev pub IsLeast : (ℕ → Bool) → Option Pair → Type 0
+IsLeast unsettled r =
+    MatchOption r (first 4096 unsettled ≡ 4096) (λ (q : Pair). first 4096 unsettled ≡ 64 * q.first + q.second)
 
 -- Each place below n has its rows.
 pub record There (n : ℕ) (rows : List ℕ) (w s : List (List ℕ)) : Type 0 where

@@ -2,11 +2,12 @@
 #![tactic(auto)]
 
 ghost use Rattle.std.specs.Prelude.{◌≡◌, ◌+◌, ◌*◌, ◌≤◌, ◌<◌, length, get_or, replicate};
-ghost use Rattle.meaning.specs.Below.{some, first};
+ghost use Rattle.meaning.specs.Below.{some};
 ghost use Rattle.conflict.specs.Pairs.{PairedUp, TakerlessFrom, Conflicts};
 ghost use Rattle.conflict.specs.Settled.{LeastAsks, There};
-ghost use Rattle.conflict.specs.Settled.{crossed_in, apart_by, apart_in, settled_in, unsettled_by};
+ghost use Rattle.conflict.specs.Settled.{crossed_in, apart_by, apart_in, settled_in, unsettled_by, IsLeast};
 
+use answers::Pair;
 use rows::{BELOW, INPUTS, LOOKS, TAKERS, WANTED_TRUE};
 
 // The sort of an inhibitor arc.
@@ -17,11 +18,9 @@ fn pair_up(pairs: &mut [u64; 64], takers: u64)
     requires { length pairs.old ≡ 64 }
     ensures { PairedUp pairs.old takers pairs.new }
 {
-    let mut left = takers;
-    while left != 0 {
-        let i = sets::lowest(left);
-        left = sets::rest(left);
-        pairs[i] = sets::union(pairs[i], left);
+    let mut others = sets::members(takers);
+    while let Some(i) = others.next() {
+        pairs[i] = sets::union(pairs[i], others.left);
     }
 }
 
@@ -31,45 +30,33 @@ pub fn conflicts(rows: &[u64], pairs: &mut [u64; 64], n: usize)
     requires { TakerlessFrom n rows.now × (pairs.old ≡ replicate 64 0) }
     ensures { Conflicts rows.now pairs.new }
 {
-    let mut p = 0;
-    while p < n {
+    for p in 0..n {
         pair_up(pairs, rows[8 * p + TAKERS]);
-        p += 1;
     }
 }
 
 // Does one want a condition true that the other wants false?
+#[tactic(auto, unfolding(crate::specs::Settled::crossed_in))]
 fn crossed(rows: &[u64], i: usize, j: usize) -> bool
     requires { (8 * i + 8 ≤ length rows.now) × (8 * j + 8 ≤ length rows.now) }
     ensures { result ≡ crossed_in rows.now i j }
 {
     let mine = rows[8 * i + WANTED_TRUE];
     let other = rows[8 * j + WANTED_TRUE];
-    if sets::meet(mine, sets::less(rows[8 * j + LOOKS], other)) {
-        return true;
-    }
-    sets::meet(sets::less(rows[8 * i + LOOKS], mine), other)
+    sets::meet(mine, sets::less(rows[8 * j + LOOKS], other))
+        || sets::meet(sets::less(rows[8 * i + LOOKS], mine), other)
 }
 
 // Does a place tell them apart: an inhibitor arc to the one, a basic or test arc of equal weight to the other?
+#[tactic(auto, unfolding(crate::specs::Settled::apart_by))]
 fn apart_at(inputs: u64, w: &[u16; 64], s: &[u8; 64], i: usize, j: usize) -> bool
     requires { (i < 64) × (j < 64) }
     ensures { result ≡ apart_by inputs w.now s.now i j }
 {
-    if !sets::has(inputs, i) {
-        return false;
-    }
-    if !sets::has(inputs, j) {
-        return false;
-    }
-    if w[i] != w[j] {
-        return false;
-    }
-    if s[i] == INHIBITOR {
-        s[j] != INHIBITOR
-    } else {
-        s[j] == INHIBITOR
-    }
+    sets::has(inputs, i)
+        && sets::has(inputs, j)
+        && w[i] == w[j]
+        && (s[i] == INHIBITOR) != (s[j] == INHIBITOR)
 }
 
 // Does one of the first n places?
@@ -77,32 +64,20 @@ fn apart(rows: &[u64], w: &[[u16; 64]], s: &[[u8; 64]], n: usize, i: usize, j: u
     requires { (i < 64) × (j < 64) × There n rows.now w.now s.now }
     ensures { result ≡ some n (apart_in rows.now w.now s.now i j) }
 {
-    let mut p = 0;
-    while p < n {
-        if apart_at(rows[8 * p + INPUTS], &w[p], &s[p], i, j) {
-            return true;
-        }
-        p += 1;
-    }
-    false
+    (0..n).any(|p| apart_at(rows[8 * p + INPUTS], &w[p], &s[p], i, j))
 }
 
 // Is the pair settled: by priority, by conditions, or by an inhibitor arc?
+#[tactic(auto, unfolding(crate::specs::Settled::settled_in))]
 fn settled(rows: &[u64], w: &[[u16; 64]], s: &[[u8; 64]], n: usize, i: usize, j: usize) -> bool
     requires i_bound { (i < 64) × (j < 64) × (8 * i + 8 ≤ length rows.now) × (8 * j + 8 ≤ length rows.now) }
     requires there { There n rows.now w.now s.now }
     ensures { result ≡ settled_in rows.now w.now s.now n i j }
 {
-    if sets::has(rows[8 * i + BELOW], j) {
-        return true;
-    }
-    if sets::has(rows[8 * j + BELOW], i) {
-        return true;
-    }
-    if crossed(rows, i, j) {
-        return true;
-    }
-    apart(rows, w, s, n, i, j)
+    sets::has(rows[8 * i + BELOW], j)
+        || sets::has(rows[8 * j + BELOW], i)
+        || crossed(rows, i, j)
+        || apart(rows, w, s, n, i, j)
 }
 
 // The later ones in conflict with transition i.
@@ -113,22 +88,27 @@ fn later(pairs: &[u64; 64], i: usize) -> u64
     pairs[i]
 }
 
-// 64i + j for the least pair i < j in conflict without a settlement, 4096 if there is none. No number is at n or past
-// it.
-pub fn least(pairs: &[u64; 64], rows: &[u64], w: &[[u16; 64]], s: &[[u8; 64]], n: usize) -> usize
+// The least pair i < j in conflict without a settlement, if there is one. No number is at n or past it.
+pub fn least(
+    pairs: &[u64; 64],
+    rows: &[u64],
+    w: &[[u16; 64]],
+    s: &[[u8; 64]],
+    n: usize,
+) -> Option<Pair>
     requires { LeastAsks n pairs.now rows.now w.now s.now }
-    ensures { result ≡ first 4096 (unsettled_by pairs.now rows.now w.now s.now n) }
+    ensures { IsLeast (unsettled_by pairs.now rows.now w.now s.now n) result }
 {
-    let mut found = 4096;
+    let mut found = None;
     'search: for i in 0..rows::transitions(n) {
-        let mut left = later(pairs, i);
-        while left != 0 {
-            let j = sets::lowest(left);
+        for j in sets::members(later(pairs, i)) {
             if !settled(rows, w, s, n, i, j) {
-                found = 64 * i + j;
+                found = Some(Pair {
+                    first: i,
+                    second: j,
+                });
                 break 'search;
             }
-            left = sets::rest(left);
         }
     }
     found

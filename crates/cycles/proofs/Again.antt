@@ -1,14 +1,13 @@
 -- The same words from the same image come to the same: a cycle that was finished is finished again, with the same
 -- record; and what is left is the trace's.
-use mathlib.Core.Bool.{Bool, true, false}
 use mathlib.Core.List.{List, [], ◌∷◌, ◌++◌}
-use mathlib.Core.Path.{◌≡◌, refl, ap, ap₂, ◌∙◌}
+use mathlib.Core.Path.{◌≡◌, refl, sym, ap, ap₂, ◌∙◌}
 use Prim.Native.Nat.{ℕ, ◌*◌, ◌/◌, ◌<◌}
 use native.Mathlib.Omega.{arith}
-use lib.Dec.{eqb}
 use lib.ListN.{length, drop}
 use lib.Seq.{drop_at}
-use borrow.Author.Tests.{eqb-true, eqb-false, ne_eqb}
+use borrow.Author.Tests.{ne_eqb}
+use Rattle.std.specs.Prelude.{Result, Ok, Err, IsOk}
 use Rattle.meaning.specs.Table.{Table, table}
 use Rattle.meaning.specs.Image.{image_bytes}
 use Rattle.meaning.specs.Calls.{words_of, trace}
@@ -18,7 +17,8 @@ use Rattle.meaning.proofs.Finished.{steps_count, reached_once, words_length}
 use Rattle.meaning.proofs.Run.{trace_finishes, trace_bursts, written_length}
 use Rattle.state.specs.Holds.{held}
 use Rattle.turn.specs.declared.Net.{Net}
-use Rattle.cycles.specs.declared.Ended.{Ended}
+use Rattle.answers.specs.declared.Refusal.TheVariants as Refusal
+use Rattle.cycles.specs.declared.Full.{Full}
 use Rattle.cycles.specs.Cycles.{all_words, CyclesOf, Done, Broke, Cycled, Ends}
 
 -- One number of steps writes one list of bytes.
@@ -43,39 +43,35 @@ module _ {bs img ws report : List ℕ} {count p : ℕ} {out : List ℕ} (broke :
       omega (arith, stays q other.bursts.0, other.bursts.1)
 
   -- So they all are.
-  pub all_again : {net : Net} {rows arcs times : List ℕ} {w s : List (List ℕ)} {heads posts : List ℕ} {e : Ended}
-      {tokens counters out' : List ℕ}
+  pub all_again : {net : Net} {rows arcs times : List ℕ} {w s : List (List ℕ)} {heads posts : List ℕ}
+      {e : Result ℕ Full} {tokens counters out' : List ℕ}
       → Cycled net img ws count out rows arcs times w s heads posts e tokens counters out'
-      → CyclesOf bs net img ws count out rows arcs times w s heads posts → e.number ≡ 0
-  all_again {e = e} cycled of = go (eqb e.number 0) refl
-    where
-      go : (b : Bool) → eqb e.number 0 ≡ b → e.number ≡ 0
-      go true q = eqb-true e.number 0 q
-      go false q =
-          let refusal = cycled.broke bs of (eqb-false e.number 0 q) in
-          absurd (not_again refusal.1 refusal.2)
+      → CyclesOf bs net img ws count out rows arcs times w s heads posts
+      → IsOk e × ((orders : ℕ) → e ≡ Ok orders
+      → Done bs img ws out (8 * net.eights) count tokens counters orders out')
+  all_again {e = Ok o} cycled of = (refl, λ orders q. let same : o ≡ orders = cc in rw (sym same) (cycled.comes bs of))
+  all_again {e = Err f} cycled of = let refusal = cycled.comes bs of in absurd (not_again refusal.0 refusal.1)
 
   bursting : trace (table bs) (all_words ws) img
       ≡ record { number = 13; at = p; cycles = count; image = broke.reached; written = broke.written }
   bursting = trace_bursts (table bs) broke.steps broke.bursts
 
   -- With none before it the image is as it was.
-  pub at_once : {number : ℕ} → number ≡ 13 → count ≡ 0
-      → Ends bs img ws report (record { number = number; at = p; cycles = count }) img out
-  at_once refusal none =
+  pub at_once : count ≡ 0 → Ends bs img ws report (Err (Refusal.Full p count)) img out
+  at_once none =
       record {
-        answer_is = rw (bursting, refusal) refl;
+        answer_is = rw bursting refl;
         image_is = reached_once (Steps.none) (rw none at broke.steps) ∙ rw bursting refl;
         report_is = broke.out_is ∙ rw (bursting, written_length (table bs) broke.steps) refl;
       }
 
   -- With some before it the image is what they leave when they are done again, and their records are written again.
-  pub again : {number n : ℕ} {tokens counters : List ℕ} {orders : ℕ} {img' out' : List ℕ} → number ≡ 13 → ¬ (count ≡ 0)
+  pub again : {n : ℕ} {tokens counters : List ℕ} {orders : ℕ} {img' out' : List ℕ} → ¬ (count ≡ 0)
       → Done bs img ws out n count tokens counters orders out' → img' ≡ image_bytes (held tokens counters orders)
-      → Ends bs img ws report (record { number = number; at = p; cycles = count }) img' out'
-  again refusal some done saved =
+      → Ends bs img ws report (Err (Refusal.Full p count)) img' out'
+  again some done saved =
       record {
-        answer_is = rw (bursting, refusal) refl;
+        answer_is = rw bursting refl;
         image_is =
             saved ∙ rw (ne_eqb count 0 some) at done.image_is ∙ reached_once done.steps broke.steps
             ∙ rw bursting refl;
@@ -104,7 +100,7 @@ none_left ws steps = empty _ (omega (arith, steps_count steps, words_length (len
 pub all_done : {bs img ws report : List ℕ} {n : ℕ} {tokens counters : List ℕ} {orders : ℕ} {img' out : List ℕ}
     → ¬ (length ws / 8 ≡ 0) → Done bs img ws report n (length ws / 8) tokens counters orders out
     → img' ≡ image_bytes (held tokens counters orders)
-    → Ends bs img ws report (record { number = 0; at = 0; cycles = length ws / 8 }) img' out
+    → Ends bs img ws report (Ok (length ws / 8)) img' out
 all_done {bs} {img} {ws} some done saved =
     record {
       answer_is = rw finishing refl;
@@ -118,7 +114,7 @@ all_done {bs} {img} {ws} some done saved =
 
 -- There is no word.
 pub no_words : {bs img ws report : List ℕ} → length ws / 8 ≡ 0
-    → Ends bs img ws report (record { number = 0; at = 0; cycles = 0 }) img report
+    → Ends bs img ws report (Ok 0) img report
 unfolding words_of
 no_words {bs} {img} {ws} none =
     record { answer_is = rw empty refl; image_is = rw empty refl; report_is = rw empty refl }

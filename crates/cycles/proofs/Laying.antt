@@ -1,11 +1,12 @@
 -- A table whose numbers are below n has nothing from n on in its rows; so what is laid out for them is the table's.
 use mathlib.Core.Bool.{false}
 use mathlib.Core.List.{List}
-use mathlib.Core.Path.{◌≡◌, ap, ◌∙◌}
+use mathlib.Core.Path.{◌≡◌, refl, ap, ◌∙◌}
 use Prim.Native.Nat.{ℕ, ◌*◌, ◌/◌, ◌≤◌, ◌<◌}
 use native.Mathlib.Omega.{arith}
 use lib.ListN.{length}
 use borrow.Author.Tests.{eqb-true}
+use Rattle.std.specs.Prelude.{Err}
 use Rattle.meaning.specs.Bytes.{bit}
 use Rattle.meaning.specs.Table.{Table, table, is}
 use Rattle.meaning.specs.Says.{Above}
@@ -21,7 +22,8 @@ use Rattle.turn.specs.declared.Net.{Net}
 use Rattle.turn.specs.Turn.{Laid}
 use Rattle.turn.proofs.Rows.{no_bit}
 use Rattle.cycles.specs.Lay.{LayAsks, Lays}
-use Rattle.cycles.specs.Cycles.{CyclesOf, PlayOf}
+use Rattle.cycles.specs.declared.Full.{Full}
+use Rattle.cycles.specs.Cycles.{CyclesOf, Broke, Cycled, PlayOf}
 
 -- Whoever stands above another is the higher one of a pair.
 higher_low : {tb : Table} {n u t : ℕ} → ((r : ℕ) → r < tb.records → tb.one r < n) → Above tb u t → u < n
@@ -100,7 +102,7 @@ module _ {bs : List ℕ} {n known : ℕ} {img ws report rows times : List ℕ} {
       }
 
   -- So many of the words can be done, into a report of the same length.
-  pub cycles_of : (count : ℕ) (out : List ℕ) → count ≤ length ws / 8 → length out ≡ length report
+  cycles_of : (count : ℕ) (out : List ℕ) → count ≤ length ws / 8 → length out ≡ length report
       → CyclesOf bs net img ws count out rows arcs times w s heads posts
   cycles_of count out most same =
       record {
@@ -111,3 +113,16 @@ module _ {bs : List ℕ} {n known : ℕ} {img ws report rows times : List ℕ} {
         few = omega (arith, most, of.ready.few);
         room = omega (arith, most, same, of.ready.room);
       }
+
+  -- All of them can; and where one is refused those before it can be done again.
+  pub all_of : CyclesOf bs net img ws (length ws / 8) report rows arcs times w s heads posts
+  all_of = cycles_of (length ws / 8) report (omega arith) refl
+
+  module _ {f : Full} {tokens counters out : List ℕ}
+      (cycled :
+      Cycled net img ws (length ws / 8) report rows arcs times w s heads posts (Err f) tokens counters out) where
+    pub refused : (f.done < length ws / 8) × Broke bs img ws report f.done f.place out
+    refused = cycled.comes bs all_of
+
+    pub again_of : length out ≡ length report → CyclesOf bs net img ws f.done out rows arcs times w s heads posts
+    again_of same = cycles_of f.done out (omega (arith, refused.0)) same

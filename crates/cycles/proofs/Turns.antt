@@ -5,9 +5,11 @@ use mathlib.Core.Path.{◌≡◌, refl, sym, ap, ap₂, ◌∙◌}
 use Prim.Native.Nat.{ℕ, suc, ◌+◌, ◌*◌, ◌/◌, ◌≤◌, ◌<◌}
 use native.Mathlib.Omega.{arith}
 use lib.Dec.{eqb}
-use lib.ListN.{length, take, drop, length-append, length-drop}
+use lib.ListN.{length, take, drop}
 use lib.Seq.{drop-drop, take_at, drop-append-add}
 use borrow.Author.Tests.{ne_eqb}
+use Rattle.std.specs.Prelude.{Some, None}
+use Rattle.meaning.specs.Below.{first}
 use Rattle.meaning.specs.Bytes.{bytes, number}
 use Rattle.meaning.specs.Table.{table, ceiling}
 use Rattle.meaning.specs.Image.{image, state, image_bytes, wrong}
@@ -48,13 +50,6 @@ pub record Turned (net : Net) (img ws : List ℕ) (count : ℕ) (report rows arc
   pub at : (bs : List ℕ) → CyclesOf bs net img ws count report rows arcs times w s heads posts
       → At bs img ws report i tokens counters orders out
   pub poised : Poised rows w s tokens counters kept levels taken put
-
--- The report is as long as it was.
-pub out_length : {bs img ws report : List ℕ} {i : ℕ} {tokens counters : List ℕ} {orders : ℕ} {out : List ℕ}
-    → At bs img ws report i tokens counters orders out → 24 * i ≤ length report → length out ≡ length report
-out_length {bs} {img} {ws} {report} {i} at room =
-    ap length at.out_is ∙ length-append at.written (drop (24 * i) report)
-    ∙ omega (arith, written_length (table bs) at.steps, length-drop (24 * i) report)
 
 module _ {bs : List ℕ} {net : Net} {img ws : List ℕ} {count : ℕ} {report rows arcs times : List ℕ} {w s : List (List ℕ)}
     {heads posts : List ℕ} (of : CyclesOf bs net img ws count report rows arcs times w s heads posts) where
@@ -122,25 +117,27 @@ module _ {bs : List ℕ} {net : Net} {img ws : List ℕ} {count : ℕ} {report r
     next_word : Steps (table bs) (all_words ws) img i (word ∷ drop (suc i) (all_words ws)) at.reached at.written
     next_word = rw (word_is, sym (words_from (length ws / 8) i ws (omega (arith, more, of.enough)))) at.steps
 
-    full_is : r.full ≡ full (table bs) at.reached word
-    full_is = step.full_is ∙ same_full (table bs) well at.reached (held tokens counters orders) at.alike word
-
     -- A place would be overfull: the cycle is refused there.
-    pub bursts : r.full < 128 → Broke bs img ws report i r.full out
-    bursts l =
+    pub bursts : {p : ℕ} → r.full ≡ Some p → Broke bs img ws report i p out
+    bursts {p} e =
+        let found : (p < 128) × (first 128 _ ≡ p) = rw e at step.full_is in
+        let full_is : p ≡ full (table bs) at.reached word =
+        sym found.1 ∙ same_full (table bs) well at.reached (held tokens counters orders) at.alike word in
         record {
           word = word;
           left = drop (suc i) (all_words ws);
           reached = at.reached;
           written = at.written;
           steps = next_word;
-          bursts = rw full_is (full_bursts (table bs) at.reached word (rw (sym full_is) l));
+          bursts = rw full_is (full_bursts (table bs) at.reached word (rw (sym full_is) found.0));
           out_is = at.out_is;
         }
 
-    module _ (none : 128 ≤ r.full) where
+    module _ (none : r.full ≡ None) where
       stays : Stays (table bs) at.reached word
-      stays p l = below_full (table bs) at.reached word p (rw (sym full_is) (omega arith))
+      stays p l =
+          let same = same_full (table bs) well at.reached (held tokens counters orders) at.alike word in
+          below_full (table bs) at.reached word p (rw (sym same, rw none at step.full_is) l)
 
       -- The arrays hold the state after the cycle.
       agree : Alike (cycle (table bs) at.reached word).after (held tokens' counters' r.orders)

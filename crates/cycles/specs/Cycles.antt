@@ -1,5 +1,6 @@
 -- What a call brings to its cycles, and what they leave: the meaning's steps over its words.
 use Rattle.std.specs.Prelude.{cond, List, ◌∷◌, ◌++◌, ◌≡◌, ℕ, ◌*◌, ◌/◌, ◌≤◌, ◌<◌, eqb, length, drop, replicate}
+use Rattle.std.specs.Prelude.{Result, MatchResult}
 use Rattle.meaning.specs.Below.{first}
 use Rattle.meaning.specs.Bytes.{bit}
 use Rattle.meaning.specs.Table.{table, transition}
@@ -11,8 +12,9 @@ use Rattle.rows.specs.Filed.{Sizes, NetOf}
 use Rattle.state.specs.Holds.{held, Small, IdlePast}
 use Rattle.turn.specs.declared.Net.{Net}
 use Rattle.turn.specs.Turn.{Laid}
-use Rattle.cycles.specs.declared.Ended.{Ended}
-use Rattle.cycles.specs.declared.Told.{Told}
+use Rattle.answers.specs.declared.Refusal.{Refusal}
+use Rattle.answers.specs.Numbered.{run_told}
+use Rattle.cycles.specs.declared.Full.{Full}
 
 -- The words of a list of bytes.
 abbrev pub all_words : List ℕ → List ℕ
@@ -59,13 +61,12 @@ pub record Broke (bs img ws report : List ℕ) (count p : ℕ) (out : List ℕ) 
   pub bursts : Bursts (table bs) reached word p
   pub out_is : out ≡ written ++ drop (24 * count) report
 
--- Whatever table the rows are of: number 0, and all is done; or 13, and a cycle is refused.
+-- Whatever table the rows are of: all is done, or a cycle is refused.
 pub record Cycled (net : Net) (img ws : List ℕ) (count : ℕ) (report rows arcs times : List ℕ) (w s : List (List ℕ))
-    (heads posts : List ℕ) (e : Ended) (tokens counters report' : List ℕ) : Type 0 where
-  pub done : (bs : List ℕ) → CyclesOf bs net img ws count report rows arcs times w s heads posts → e.number ≡ 0
-      → Done bs img ws report (8 * net.eights) count tokens counters e.orders report'
-  pub broke : (bs : List ℕ) → CyclesOf bs net img ws count report rows arcs times w s heads posts → ¬ (e.number ≡ 0)
-      → (e.number ≡ 13) × (e.cycles < count) × Broke bs img ws report e.cycles e.at report'
+    (heads posts : List ℕ) (e : Result ℕ Full) (tokens counters report' : List ℕ) : Type 0 where
+  pub comes : (bs : List ℕ) → CyclesOf bs net img ws count report rows arcs times w s heads posts
+      → MatchResult e (λ orders. Done bs img ws report (8 * net.eights) count tokens counters orders report')
+      (λ f. (f.done < count) × Broke bs img ws report f.done f.place report')
 
 -- The image fits the table, the words are not too many, and the report has room for every one.
 pub record Ready (bs img ws report : List ℕ) : Type 0 where
@@ -96,13 +97,13 @@ abbrev pub left_by : List ℕ → List ℕ → List ℕ → List ℕ → Run
 left_by bs img ws report = ran (trace (table bs) (all_words ws) img) report
 
 -- The answer, the image and the report are the trace's.
-pub record Ends (bs img ws report : List ℕ) (a : Told) (img' report' : List ℕ) : Type 0 where
-  pub answer_is : record { number = a.number; at = a.at; cycles = a.cycles } ≡ (left_by bs img ws report).answer
+pub record Ends (bs img ws report : List ℕ) (a : Result ℕ Refusal) (img' report' : List ℕ) : Type 0 where
+  pub answer_is : run_told a ≡ (left_by bs img ws report).answer
   pub image_is : img' ≡ (left_by bs img ws report).image
   pub report_is : report' ≡ (left_by bs img ws report).report
 
 -- Whatever table the rows are of.
 pub record Played (n known : ℕ) (img ws report rows times : List ℕ) (w s : List (List ℕ)) (heads posts : List ℕ)
-    (a : Told) (img' report' : List ℕ) : Type 0 where
+    (a : Result ℕ Refusal) (img' report' : List ℕ) : Type 0 where
   pub ends : (bs : List ℕ) → PlayOf bs n known img ws report rows times w s heads posts
       → Ends bs img ws report a img' report'

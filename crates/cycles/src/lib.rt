@@ -10,20 +10,9 @@ ghost use Rattle.levels.specs.Levels.{Levels};
 ghost use Rattle.cycles.specs.Lay.{LayAsks, Lays, LevelAsks};
 ghost use Rattle.cycles.specs.Cycles.{CyclesAsks, Cycled, PlayAsks, Played};
 
+use answers::Refusal;
 use rows::{LIMIT, LOOKS};
 use turn::Net;
-
-// s, and t where it passes.
-fn with_if(s: u64, t: usize, passes: bool) -> u64
-    requires { t < 64 }
-    ensures { (j : ℕ) → bit result j ≡ (bit s j || (passes && eqb t j)) }
-{
-    if passes {
-        sets::union(s, sets::single(t))
-    } else {
-        s
-    }
-}
 
 // The timed transitions of the first m: those whose counters rise. From m on none does.
 fn timed(times: &[u32; 192], m: usize) -> u64
@@ -31,10 +20,10 @@ fn timed(times: &[u32; 192], m: usize) -> u64
     ensures { (t : ℕ) → t < 64 → bit result t ≡ not (eqb (limit_of times.now t) 0) }
 {
     let mut r = 0u64;
-    let mut t = 0;
-    while t < m {
-        r = with_if(r, t, times[3 * t + LIMIT] != 0);
-        t += 1;
+    for t in 0..m {
+        if times[3 * t + LIMIT] != 0 {
+            r = sets::union(r, sets::single(t));
+        }
     }
     r
 }
@@ -47,10 +36,10 @@ fn conditional(rows: &[u64], m: usize) -> u64
     ensures low { (t : ℕ) → bit result t ≡ true → t < m }
 {
     let mut r = 0u64;
-    let mut t = 0;
-    while t < m {
-        r = with_if(r, t, rows[8 * t + LOOKS] != 0);
-        t += 1;
+    for t in 0..m {
+        if rows[8 * t + LOOKS] != 0 {
+            r = sets::union(r, sets::single(t));
+        }
     }
     r
 }
@@ -65,7 +54,7 @@ fn lay(rows: &[u64], arcs: &mut [u64; 320], times: &[u32; 192], known: u64, n: u
     arcs::turn(rows, arcs, n);
     let lower = arcs::rivals(rows, arcs, m);
     Net {
-        eights: (n + 7) / 8,
+        eights: n.div_ceil(8),
         known,
         timed: timed(times, m),
         conditional: conditional(rows, m),
@@ -85,13 +74,10 @@ fn level(
     n: usize,
 )
     requires { LevelAsks n tokens.now kept.old levels.old rows.now w.now s.now }
-    ensures { Levels rows.now w.now s.now tokens.now
-        kept.new levels.new }
+    ensures { Levels rows.now w.now s.now tokens.now kept.new levels.new }
 {
-    let mut p = 0;
-    while p < n {
+    for p in 0..n {
         levels::relevel(p, tokens[p], kept, levels, rows, w, s);
-        p += 1;
     }
 }
 
@@ -106,18 +92,16 @@ fn write(report: &mut [u8], at: usize, fired: u64, actions: u64, functions: u64)
     numbers::put_eight(report, at + 16, functions);
 }
 
-// How the words came to their end: number and where, the finished cycles, and the reset orders then.
-#[derive(Clone, Copy)]
-struct Ended {
-    number: usize,
-    at: usize,
-    cycles: usize,
-    orders: u64,
+// A cycle that is refused: the lowest place that would be full, and the cycles finished before it.
+#[derive(Clone, Copy, Debug)]
+struct Full {
+    place: usize,
+    done: usize,
 }
 
 // One cycle for each of the first `count` words, from the state that the image holds, until one is refused. Each
-// finished cycle writes its record; where none is refused, tokens and counters are those after the last. Both are lent
-// as zeros.
+// finished cycle writes its record; where none is refused, the answer is the reset orders after the last, and tokens
+// and counters are those then. Both are lent as zeros.
 fn cycles(
     net: Net,
     image: &[u8],
@@ -133,7 +117,7 @@ fn cycles(
     s: &[[u8; 64]],
     heads: &[u16; 64],
     posts: &[u16],
-) -> Ended
+) -> Result<u64, Full>
     requires { CyclesAsks net image.now words.now count report.old tokens.old counters.old rows.now
         arcs.now times.now w.now s.now heads.now posts.now }
     ensures { Cycled net image.now words.now count report.old
@@ -147,8 +131,7 @@ fn cycles(
     level(tokens, &mut kept, &mut levels, rows, w, s, n);
     let mut taken = [0u32; 128];
     let mut put = [0u32; 128];
-    let mut i = 0;
-    while i < count {
+    for i in 0..count {
         let word = numbers::eight(words, 8 * i);
         let r = turn::step(
             net,
@@ -168,33 +151,13 @@ fn cycles(
             heads,
             posts,
         );
-        let full = r.full;
-        if full < 128 {
-            return Ended {
-                number: 13,
-                at: full,
-                cycles: i,
-                orders,
-            };
+        if let Some(place) = r.full {
+            return Err(Full { place, done: i });
         }
         write(report, 24 * i, r.fired, r.actions, r.functions);
         orders = r.orders;
-        i += 1;
     }
-    Ended {
-        number: 0,
-        at: 0,
-        cycles: count,
-        orders,
-    }
-}
-
-// An answer: its number (0 accepted), the page's where, the cycles done.
-#[derive(Clone, Copy)]
-pub struct Told {
-    pub number: usize,
-    pub at: usize,
-    pub cycles: usize,
+    Ok(orders)
 }
 
 // The cycles of a call whose checks are passed. Where a cycle is refused, those before it are done again from the
@@ -211,7 +174,7 @@ pub fn play(
     s: &[[u8; 64]],
     heads: &[u16; 64],
     posts: &[u16],
-) -> Told
+) -> Result<usize, Refusal>
     requires { PlayAsks n known image.old words.now report.old rows.now times.now w.now s.now
         heads.now posts.now }
     ensures { Played n known image.old words.now report.old rows.now
@@ -220,11 +183,7 @@ pub fn play(
 {
     let count = words.len() / 8;
     if count == 0 {
-        return Told {
-            number: 0,
-            at: 0,
-            cycles: 0,
-        };
+        return Ok(0);
     }
     let mut arcs = [0u64; 320];
     let net = lay(rows, &mut arcs, times, known, n);
@@ -246,39 +205,37 @@ pub fn play(
         heads,
         posts,
     );
-    if first.number == 0 {
-        state::save(image, &tokens, &counters, first.orders, 8 * net.eights);
-        return Told {
-            number: 0,
-            at: 0,
-            cycles: count,
-        };
-    }
-    let done = first.cycles;
-    if done != 0 {
-        let mut again = [0u32; 128];
-        let mut counts = [0u32; 64];
-        let last = cycles(
-            net,
-            image,
-            words,
-            done,
-            report,
-            &mut again,
-            &mut counts,
-            rows,
-            &arcs,
-            times,
-            w,
-            s,
-            heads,
-            posts,
-        );
-        state::save(image, &again, &counts, last.orders, 8 * net.eights);
-    }
-    Told {
-        number: first.number,
-        at: first.at,
-        cycles: done,
+    match first {
+        Ok(orders) => {
+            state::save(image, &tokens, &counters, orders, 8 * net.eights);
+            Ok(count)
+        }
+        Err(Full { place, done }) => {
+            if done != 0 {
+                let mut again = [0u32; 128];
+                let mut counts = [0u32; 64];
+                let last = cycles(
+                    net,
+                    image,
+                    words,
+                    done,
+                    report,
+                    &mut again,
+                    &mut counts,
+                    rows,
+                    &arcs,
+                    times,
+                    w,
+                    s,
+                    heads,
+                    posts,
+                );
+                state::save(image, &again, &counts, last.unwrap(), 8 * net.eights);
+            }
+            Err(Refusal::Full {
+                place,
+                cycles: done,
+            })
+        }
     }
 }

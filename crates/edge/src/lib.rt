@@ -10,6 +10,7 @@ use rows::{FIRST, LAST, LIMIT, LOOKS, WANTED_TRUE};
 
 // The counter of an enabled timed transition after the falling edge: with a reset order 1, else one more if below its
 // limit.
+#[tactic(auto, unfolding(crate::specs::Edges::raised))]
 fn counted(again: bool, c: u32, limit: u32) -> u32
     ensures { result ≡ raised again limit c }
 {
@@ -35,9 +36,7 @@ pub fn fall(counters: &mut [u32; 64], times: &[u32; 192], timed: u64, on: u64, o
     ensures ready { Ready timed on times.now counters.new result }
 {
     let mut ready = 0u64;
-    let mut left = timed;
-    while left != 0 {
-        let t = sets::lowest(left);
+    for t in sets::members(timed) {
         if sets::has(on, t) {
             let c = counted(sets::has(orders, t), counters[t], times[3 * t + LIMIT]);
             counters[t] = c;
@@ -47,7 +46,6 @@ pub fn fall(counters: &mut [u32; 64], times: &[u32; 192], timed: u64, on: u64, o
         } else {
             counters[t] = 0;
         }
-        left = sets::rest(left);
     }
     ready
 }
@@ -66,13 +64,10 @@ pub fn firable(on: u64, timed: u64, ready: u64, conditional: u64, rows: &[u64], 
     ensures { Able on timed ready rows.now word result }
 {
     let mut able = sets::union(sets::less(on, timed), ready);
-    let mut left = able & conditional;
-    while left != 0 {
-        let t = sets::lowest(left);
+    for t in sets::members(able & conditional) {
         if !asked(rows[8 * t + LOOKS], rows[8 * t + WANTED_TRUE], word) {
             able = sets::less(able, sets::single(t));
         }
-        left = sets::rest(left);
     }
     able
 }

@@ -60,7 +60,8 @@ module _ (bs img : List ℕ) (a : Answer) (img' : List ℕ) (promised : Started 
 
   -- A refusal changes no byte.
   pub start_refused_changes_nothing : (a.number ≡ 0 → ⊥) → img' ≡ img
-  start_refused_changes_nothing n = promised.image_is ∙ start_refused_leaves bs img (λ z. n (ap number_of promised.answer_is ∙ z))
+  start_refused_changes_nothing n =
+      promised.image_is ∙ start_refused_leaves bs img (λ z. n (ap number_of promised.answer_is ∙ z))
 
   -- Accepted, the image spells a fresh net and fits the table.
   module _ (z : a.number ≡ 0) where
@@ -68,7 +69,8 @@ module _ (bs img : List ℕ) (a : Answer) (img' : List ℕ) (promised : Started 
     written = promised.image_is ∙ start_accepted_leaves bs img (sym (ap number_of promised.answer_is) ∙ z)
 
     pub start_leaves_a_fresh_net : (s : State) × Fresh (table bs) s × StateSpelt img' s
-    start_leaves_a_fresh_net = rw written (fresh_spelt bs (start_checked bs img (sym (ap number_of promised.answer_is) ∙ z)))
+    start_leaves_a_fresh_net =
+        rw written (fresh_spelt bs (start_checked bs img (sym (ap number_of promised.answer_is) ∙ z)))
 
     pub start_fits : ImageFits (table bs) img'
     start_fits = rw written (fresh_fits bs (start_checked bs img (sym (ap number_of promised.answer_is) ∙ z)))
@@ -76,7 +78,8 @@ module _ (bs img : List ℕ) (a : Answer) (img' : List ℕ) (promised : Started 
     -- So run never answers 10 to it.
     pub run_after_start : (ws report : List ℕ) (b : Answer) (img'' report' : List ℕ)
         → Ran bs img' ws report b img'' report' → b.number ≢ 10
-    run_after_start ws report b img'' report' ran e = never_10 bs img' start_fits ws report (sym (ap number_of ran.answer_is) ∙ e)
+    run_after_start ws report b img'' report' ran e =
+        never_10 bs img' start_fits ws report (sym (ap number_of ran.answer_is) ∙ e)
 
 -- RUN
 
@@ -110,7 +113,8 @@ module _ (bs img ws report : List ℕ) (a : Answer) (img' report' : List ℕ)
       × Steps (table bs) (words ws) img c (word ∷ later) reached bytes × Bursts (table bs) reached word p
       × (img' ≡ reached) × (report' ≡ bytes ++ drop (24 * c) report)
   full_keeps_the_finished p c e =
-      let answer : (run bs img ws report).answer ≡ record { number = 13; at = p; cycles = c } = sym promised.answer_is ∙ e in
+      let answer : (run bs img ws report).answer ≡ record { number = 13; at = p; cycles = c } =
+      sym promised.answer_is ∙ e in
       let left = run_full_leaves bs img ws report (ap number_of answer) (verdict_not_13 bs img ws report) in
       let same = sym left.8.0 ∙ answer in
       let at_p : left.5 ≡ p = ap (λ (b : Answer). b.at) same in
@@ -180,7 +184,8 @@ pub no_words_change_nothing : (bs img report : List ℕ) (a : Answer) (img' repo
     → Ran bs img [] report a img' report'
     → (((n w : ℕ) → ¬ RunSays bs img [] report n w) → a ≡ accepted 0) × (a.cycles ≡ 0) × (img' ≡ img)
     × (report' ≡ report)
-no_words_change_nothing bs img report a img' report' ran = rw (ran.answer_is, ran.image_is, ran.report_is) (nothing_to_do bs img report)
+no_words_change_nothing bs img report a img' report' ran =
+    rw (ran.answer_is, ran.image_is, ran.report_is) (nothing_to_do bs img report)
 
 -- And for every accepted table, state and word: the marking at the start pays for all, each finds what it takes, and
 -- every order ends in one marking.

@@ -3,20 +3,21 @@ use mathlib.Core.Bool.{Bool, true, false, cond}
 use mathlib.Core.List.{List}
 use mathlib.Core.Logic.{◌⊎◌, inl, inr}
 use mathlib.Core.Path.{◌≡◌, refl, ap}
-use Prim.Native.Nat.{ℕ, zero, suc, ◌*◌, ◌≤◌, ◌<◌}
+use Prim.Native.Nat.{ℕ, zero, suc, ◌/◌, ◌≤◌, ◌<◌}
 use native.Mathlib.Nat.{not-suc-le-zero}
 use native.Mathlib.Omega.{arith}
 use lib.Dec.{ltb}
-use lib.ListN.{length, replicate}
+use lib.ListN.{length, replicate, length-replicate}
 use borrow.Author.Tests.{ltb-true, ltb-false}
+use Rattle.std.specs.Prelude.{Ok}
 use Rattle.meaning.specs.Table.{Table, table}
 use Rattle.meaning.specs.Defined.{bad_length}
 use Rattle.meaning.proofs.Below.{last}
 use Rattle.rows.specs.Extent.{top, extent_of, Roomy}
-use Rattle.judge.specs.declared.Verdict.{Verdict}
+use Rattle.rows.specs.declared.Declared.{Declared}
 use Rattle.judge.specs.Judged.{JudgeAsks, Judges}
 use Rattle.judge.proofs.Answers.{few_bytes}
-use Rattle.engine.specs.Said.{ProceedOf}
+use Rattle.engine.specs.Said.{ProceedOf, RoomFor}
 
 -- Each byte 1 is below the extent.
 top_is : (tb : Table) (n r : ℕ) → r < n → tb.one r ≤ top tb n
@@ -39,71 +40,79 @@ extent_above tb {n} e r l = omega (arith, top_is tb tb.records r l, e)
 abbrev empty_rows : ℕ → List (List ℕ)
 empty_rows k = replicate k (replicate 64 0)
 
-module _ (bs : List ℕ) {n : ℕ} (roomy : Roomy (table bs) n) where
-  pub small_room : n ≤ 32 → length bs ≤ 2048
-      → JudgeAsks (table bs) n (replicate 256 0) (empty_rows 32) (empty_rows 32) (replicate 64 0) (replicate 768 0)
-      (replicate 192 0)
-  unfolding table
-  small_room few short =
-      record {
-        few = omega (arith, few);
-        roomy = roomy;
-        enough = few;
-        blank =
-            record {
-              roomy = λ r h l. omega (arith, roomy r h l, few);
-              no_rows = refl;
-              no_weights = refl;
-              no_sorts = refl;
-              no_heads = refl;
-              no_posts = refl;
-              posts_there = omega (arith, short);
-              no_times = refl;
-            };
-      }
+size : (k : ℕ) → length (empty_rows k) ≡ k
+size k = length-replicate k _
 
-  pub large_room : n ≤ 128 → bad_length bs ≡ false
-      → JudgeAsks (table bs) n (replicate 1024 0) (empty_rows 128) (empty_rows 128) (replicate 64 0)
-      (replicate 3072 0) (replicate 192 0)
-  unfolding table
-  large_room few right =
-      record {
-        few = few;
-        roomy = roomy;
-        enough = few;
-        blank =
-            record {
-              roomy = λ r h l. omega (arith, roomy r h l, few);
-              no_rows = refl;
-              no_weights = refl;
-              no_sorts = refl;
-              no_heads = refl;
-              no_posts = refl;
-              posts_there = omega (arith, few_bytes bs right);
-              no_times = refl;
-            };
-      }
+-- As rows are asked for.
+pub room : {bs : List ℕ} {n rows places links : ℕ} → RoomFor bs n rows places links
+    → JudgeAsks (table bs) n (replicate rows 0) (empty_rows places) (empty_rows places) (replicate 64 0)
+    (replicate links 0) (replicate 192 0)
+room {bs} {n} {rows} {places} {links} r =
+    record {
+      few = omega (arith, r.enough, r.few);
+      roomy = r.roomy;
+      enough = omega (arith, r.enough, size places);
+      blank =
+          record {
+            roomy = λ k h l.
+                omega (arith, r.roomy k h l, r.enough, size places);
+            no_rows = rw (size places, r.rows_are);
+            no_weights = rw (size places);
+            no_sorts = rw (size places);
+            no_heads = refl;
+            no_posts = rw (length-replicate {A = ℕ} links 0);
+            posts_there = rw (length-replicate {A = ℕ} links 0) r.links_there;
+            no_times = refl;
+          };
+    }
 
--- The rows of a table that is accepted, so many as they were made: eights of numbers, and post arcs of so many records.
-module _ {bs : List ℕ} {n : ℕ} {v : Verdict} {rows : List ℕ} {w s : List (List ℕ)} {heads posts times : List ℕ}
-    (judges : Judges bs n v rows w s heads posts times) where
-  pub goes_on : (eights : ℕ) → n ≤ 8 * eights → 8 * eights ≤ 128 → length rows ≡ 8 * (8 * eights)
-      → length w ≡ 8 * eights
-      → length s ≡ 8 * eights → 3 * (table bs).records ≤ length posts → v.number ≡ 0
-      → ProceedOf bs n v.known rows times w s heads posts
-  goes_on eights enough few rows_are weights_are sorts_are posts_are e =
-      record {
-        net_of = judges.net_of e;
-        eights = eights;
-        enough = enough;
-        few = few;
-        sizes =
-            record {
-              rows_are = omega (arith, rows_are);
-              weights_are = omega (arith, weights_are);
-              sorts_are = omega (arith, sorts_are);
-              heads_are = (judges.lengths e).0;
-              posts_are = posts_are;
-              times_are = (judges.lengths e).1;
-            };
-      }
+-- The two sizes are enough: for 32 numbers and 256 records, and for any table.
+pub small : {bs : List ℕ} {n : ℕ} → Roomy (table bs) n → n ≤ 32 → length bs ≤ 2048 → RoomFor bs n 256 32 768
+unfolding table
+small roomy few short =
+    record {
+      roomy = roomy;
+      enough = few;
+      few = omega arith;
+      rows_are = refl;
+      eights = refl;
+      links_there = omega (arith, short);
+      links_few = omega arith;
+    }
+
+pub large : {bs : List ℕ} {n : ℕ} → Roomy (table bs) n → n ≤ 128 → bad_length bs ≡ false
+    → RoomFor bs n 1024 128 3072
+unfolding table
+large {bs} roomy few right =
+    record {
+      roomy = roomy;
+      enough = few;
+      few = omega arith;
+      rows_are = refl;
+      eights = refl;
+      links_there = omega (arith, few_bytes bs right);
+      links_few = omega arith;
+    }
+
+-- The rows of a table that is accepted are as many as they were made.
+pub goes_on : {bs : List ℕ} {n size places links : ℕ} {known : Declared} {rows : List ℕ} {w s : List (List ℕ)}
+    {heads posts times : List ℕ}
+    → RoomFor bs n size places links → Judges bs n (Ok known) rows w s heads posts times → length rows ≡ size
+    → length w ≡ places → length s ≡ places → length posts ≡ links
+    → ProceedOf bs n known rows times w s heads posts
+goes_on {places = places} r judges rows_are weights_are sorts_are posts_are =
+    record {
+      net_of = judges.net_of;
+      eights = places / 8;
+      enough = omega (arith, r.enough, r.eights);
+      few = omega (arith, r.few, r.eights);
+      sizes =
+          record {
+            rows_are = omega (arith, rows_are, r.rows_are, r.eights);
+            weights_are = omega (arith, weights_are, r.eights);
+            sorts_are = omega (arith, sorts_are, r.eights);
+            heads_are = judges.lengths.0;
+            posts_are = omega (arith, posts_are, r.links_there);
+            times_are = judges.lengths.1;
+          };
+    }

@@ -1,17 +1,11 @@
 // What is lent to run beside an accepted table: answers 10, 11 and 12, then the cycles.
 ghost use Rattle.std.specs.Prelude.{◌≡◌, ◌≤◌};
-ghost use Rattle.meaning.specs.Answer.{accepted, refused, decide};
+ghost use Rattle.meaning.specs.Answer.{accepted, decide};
+ghost use Rattle.answers.specs.Numbered.{check_told};
 ghost use Rattle.engine.specs.Said.{lent_checks, ProceedAsks, Proceeds};
 
-use super::Answer;
+use answers::Refusal;
 use rows::Declared;
-
-// What is found of the bytes lent beside a table: number and where of an answer.
-#[derive(Clone, Copy)]
-struct Finding {
-    number: usize,
-    at: usize,
-}
 
 // Answers 10, 11 and 12, by what the table declares and how far its counters rise. No number of the table is at n or
 // past it.
@@ -22,35 +16,26 @@ fn judge_lent(
     known: Declared,
     times: &[u32; 192],
     n: usize,
-) -> Finding
+) -> Result<(), Refusal>
     requires { n ≤ 128 }
-    ensures { refused result.number result.at
-        ≡ decide (lent_checks image.now words.now report.now known
-        times.now) (accepted 0) }
+    ensures { check_told result ≡ decide (lent_checks image.now words.now report.now known times.now) (accepted 0) }
 {
     if image.len() != 768 {
-        return Finding {
-            number: 10,
-            at: 192,
-        };
+        return Err(Refusal::State { record: 192 });
     }
-    let wrong = state::first_wrong(image, known, times, n);
-    if wrong < 192 {
-        return Finding {
-            number: 10,
-            at: wrong,
-        };
+    if let Some(record) = state::first_wrong(image, known, times, n) {
+        return Err(Refusal::State { record });
     }
     if words.len() % 8 != 0 {
-        return Finding { number: 11, at: 0 };
+        return Err(Refusal::Words);
     }
     if 4096 < words.len() {
-        return Finding { number: 11, at: 0 };
+        return Err(Refusal::Words);
     }
     if report.len() < 24 * (words.len() / 8) {
-        return Finding { number: 12, at: 0 };
+        return Err(Refusal::Room);
     }
-    Finding { number: 0, at: 0 }
+    Ok(())
 }
 
 // run behind an accepted table, by the rows of its net: answers 10, 11 and 12, then one cycle a word.
@@ -66,22 +51,13 @@ pub fn proceed(
     s: &[[u8; 64]],
     heads: &[u16; 64],
     posts: &[u16],
-) -> Answer
+) -> Result<usize, Refusal>
     requires { ProceedAsks n known rows.now times.now w.now s.now heads.now posts.now }
-    ensures { Proceeds n known rows.now times.now w.now s.now
-        heads.now
-        posts.now image.old words.now report.old result image.new
-        report.new }
+    ensures { Proceeds n known rows.now times.now w.now s.now heads.now posts.now image.old words.now report.old
+        result image.new report.new }
 {
-    let lent = judge_lent(image, words, report, known, times, n);
-    if lent.number != 0 {
-        return Answer {
-            number: lent.number,
-            at: lent.at,
-            cycles: 0,
-        };
-    }
-    let told = cycles::play(
+    judge_lent(image, words, report, known, times, n)?;
+    cycles::play(
         n,
         known.transitions,
         image,
@@ -93,10 +69,5 @@ pub fn proceed(
         s,
         heads,
         posts,
-    );
-    Answer {
-        number: told.number,
-        at: told.at,
-        cycles: told.cycles,
-    }
+    )
 }

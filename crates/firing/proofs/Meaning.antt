@@ -135,7 +135,8 @@ module _ {bs : List ℕ} {n : ℕ} {rows : List ℕ} {w s : List (List ℕ)} {he
         out = withdrawn tb (λ u. bit r u && above tb u t) p
 
         go : (b : Bool) → eqb (bit_and g (takers rows p)) 0 ≡ b
-            → (not b && stops_with (get_or m p 0 - taken_at g rows w p) w s t p) ≡ stops_with (st.tokens p - out) w s t p
+            → (not b && stops_with (get_or m p 0 - taken_at g rows w p) w s t p)
+            ≡ stops_with (st.tokens p - out) w s t p
         go true z =
             let none : taken_at g rows w p ≡ 0 =
             sum_zero 64 _

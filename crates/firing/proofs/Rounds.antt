@@ -3,15 +3,15 @@
 use mathlib.Core.Bool.{Bool, true, false, not, ◌&&◌, ◌||◌, and-true, and-false, or-false}
 use mathlib.Core.List.{List}
 use mathlib.Core.Path.{◌≡◌, refl, sym, ap, ◌∙◌}
-use Prim.Native.Nat.{ℕ, ◌+◌, ◌<◌, ◌^◌}
+use Prim.Native.Nat.{ℕ, zero, suc, ◌+◌, ◌<◌, ◌^◌}
 use native.Mathlib.Nat.{not-suc-le-zero, lt_of_le_of_lt}
 use native.Mathlib.Omega.{arith}
 use lib.Bits.{bit_and, and_le_l}
-use lib.Dec.{eqb}
-use borrow.Author.Tests.{eqb-true, eq-eqb}
+use borrow.Author.Tests.{eq-eqb}
 use Rattle.meaning.specs.Bytes.{bit}
 use Rattle.meaning.proofs.Bool.{not_both, and_left, and_right, or_false as or_none}
-use Rattle.meaning.proofs.Below.{none_intro, none_elim}
+use Rattle.meaning.proofs.Below.{some_elim, none_intro, none_elim}
+use Rattle.meaning.proofs.Reflect.{not_true_false}
 use Rattle.sets.proofs.Bits.{bit_zero, bit-and, same_set}
 use Rattle.rows.specs.Rows.{takers}
 use Rattle.arcs.specs.Arcs.{low, high, rivals_of}
@@ -34,65 +34,21 @@ spared m rows w s near far g t e =
 abbrev pub Passed : ℕ → ℕ → ℕ → (ℕ → Bool) → ℕ → Type 0
 Passed base left todo f x = (t : ℕ) → t < 64 → bit x t ≡ (bit base t || ((bit left t && not (bit todo t)) && f t))
 
--- Nobody is passed at the start, and all are at the end.
-pub none_passed : (base left : ℕ) (f : ℕ → Bool) → Passed base left left f base
-none_passed base left f t h = rw (neither (bit left t)) (sym (or-false (bit base t)))
-  where
-    neither : (b : Bool) → (b && not b) ≡ false
-    neither true = refl
-    neither false = refl
-
+-- At the end all are passed.
 pub all_passed : (base left todo : ℕ) (f : ℕ → Bool) (x : ℕ) → todo ≡ 0 → Passed base left todo f x
     → (t : ℕ) → t < 64 → bit x t ≡ (bit base t || (bit left t && f t))
 all_passed base left todo f x e p t h = p t h ∙ rw (e, bit_zero t, and-true (bit left t))
 
--- Member k is passed.
-one_passed : (base left todo : ℕ) (f : ℕ → Bool) (x k after next : ℕ) (said : Bool) → k < 64 → bit todo k ≡ true
-    → bit left k ≡ true
-    → ((j : ℕ) → bit next j ≡ (bit todo j && not (eqb k j)))
-    → ((j : ℕ) → bit after j ≡ (bit x j || (said && eqb k j))) → said ≡ f k
-    → Passed base left todo f x → Passed base left next f after
-one_passed base left todo f x k after next said l mine has rest gains same p t h = gains t ∙ go (eqb k t) refl
-  where
-    go : (b : Bool) → eqb k t ≡ b → (bit x t || (said && eqb k t))
-        ≡ (bit base t || ((bit left t && not (bit next t)) && f t))
-    go true e = rw (← eqb-true k t e, p k l, rest k, mine, has, eq-eqb k k refl, same) (here (bit base k) (f k))
-      where
-        here : (a b : Bool) → ((a || false) || (b && true)) ≡ (a || b)
-        here true b = refl
-        here false b = and-true b
-    go false e = rw (e, rest t, e, and-true (bit todo t), and-false said, or-false (bit x t)) (p t h)
-
 -- Where the walk over those left has come to: who of those passed waits is kept, and who fires is added to `out`.
 pub record Walked (left out : ℕ) (waits fires : ℕ → Bool) (todo keep more : ℕ) : Type 0 where
-  pub small : todo < 2 ^ 64
   pub inside : (t : ℕ) → bit todo t ≡ true → bit left t ≡ true
   pub kept : Passed 0 left todo waits keep
   pub added : Passed out left todo fires more
 
--- A turn takes member k out of `todo` and leaves `next`.
-pub one_walked : (todo k next : ℕ) → ((j : ℕ) → bit next j ≡ (bit todo j && not (eqb k j))) → k < 64
-    → bit todo k ≡ true → next < 2 ^ 64
-    → {left out : ℕ} {waits fires : ℕ → Bool} (keep more : ℕ) → Walked left out waits fires todo keep more
-    → (after : ℕ) (x : Bool) → x ≡ waits k → ((j : ℕ) → bit after j ≡ (bit keep j || (x && eqb k j)))
-    → (gained : ℕ) (y : Bool) → y ≡ fires k → ((j : ℕ) → bit gained j ≡ (bit more j || (y && eqb k j)))
-    → Walked left out waits fires next after gained
-one_walked todo k next rest low mine small {left} {out} {waits} {fires} keep more w after x says adds gained y tells
-    gains =
-    record {
-      small = small;
-      inside = λ j e. w.inside j (and_left (bit todo j) (not (eqb k j)) (sym (rest j) ∙ e));
-      kept = one_passed 0 left todo waits keep k after next x low mine (w.inside k mine) rest adds says w.kept;
-      added =
-          one_passed out left todo fires more k gained next y low mine (w.inside k mine) rest gains tells w.added;
-    }
-
 module _ (able : ℕ) (m rows arcs : List ℕ) (w s : List (List ℕ)) (lower : ℕ) where
-  -- After k rounds: those of rank below k are decided, and who is decided meets the rule and has none of those left
-  -- for a rival.
-  pub record Settled (k left out : ℕ) : Type 0 where
+  -- After a round: who is decided meets the rule and has none of those left for a rival.
+  pub record Settled (left out : ℕ) : Type 0 where
     pub ranks : Ranks arcs lower
-    pub gone : (t : ℕ) → t < 64 → ranks.rank t < k → bit left t ≡ false
     pub opens : (t : ℕ) → t < 64 → bit left t ≡ true → (bit able t ≡ true) × (bit out t ≡ false)
     pub clear : (t u : ℕ) → t < 64 → u < 64 → bit able t ≡ true → bit left t ≡ false → bit (rivals_of arcs t) u ≡ true
         → bit left u ≡ false
@@ -114,30 +70,46 @@ module _ (able : ℕ) (m rows arcs : List ℕ) (w s : List (List ℕ)) (lower : 
         (λ u l. bit-and out (rivals_of arcs t) u
         ∙ rw (ranks.lower_is t h n u l, and-false (bit out u)) (sym (bit_zero u))))
 
-    pub at_start : Settled 0 (bit_and able lower) out
+    pub at_start : Settled (bit_and able lower) out
     at_start =
         record {
           ranks = ranks;
-          gone = λ t h l. absurd (not-suc-le-zero l);
           opens = λ t h e.
               let both : (bit able t && bit lower t) ≡ true = sym (bit-and able lower t) ∙ e in (
                 and_left (bit able t) (bit lower t) both,
                 first t ∙ rw (and_right (bit able t) (bit lower t) both) (and-false (bit able t)),
               );
           clear = λ t u h l e n a. not_both a (ranks.lower_is t h (open_top t e n) u l);
-          meets = λ t h n. first t ∙ met t h n (bit able t) refl;
+          meets = λ t h n. grind (arith, first t, open_top t, untaken t h);
         }
-      where
-        met : (t : ℕ) → t < 64 → bit (bit_and able lower) t ≡ false → (b : Bool) → bit able t ≡ b
-            → (b && not (bit lower t)) ≡ (b && keeps m rows arcs w s out t)
-        met t h n true e = rw (open_top t e n) (sym (untaken t h (open_top t e n)))
-        met t h n false e = refl
 
-module _ {able : ℕ} {m rows arcs : List ℕ} {w s : List (List ℕ)} {lower k left out : ℕ}
-    (d : Settled able m rows arcs w s lower k left out) where
+module _ {able : ℕ} {m rows arcs : List ℕ} {w s : List (List ℕ)} {lower left out : ℕ}
+    (d : Settled able m rows arcs w s lower left out) where
   -- With none left the set meets the rule.
-  pub at_end : ((t : ℕ) → t < 64 → bit left t ≡ false) → Fires able m rows arcs w s out
-  at_end none = record { meets = λ t h. d.meets t h (none t h) }
+  pub at_end : left ≡ 0 → Fires able m rows arcs w s out
+  at_end none = record { meets = λ t h. d.meets t h (rw (none, bit_zero t)) }
+
+  -- A round leaves fewer: where all those left waited, each would have a rival of a lower rank among them.
+  module _ {x : Round} (r : Decided left out m rows arcs w s x) where
+    nobody : ((u : ℕ) → u < 64 → bit left u ≡ true → waits_for arcs left u ≡ true) → (k t : ℕ) → t < 64
+        → d.ranks.rank t < k → ¬ (bit left t ≡ true)
+    nobody all zero t h l e = not-suc-le-zero l
+    nobody all (suc k) t h l e =
+        let w = some_elim 64 _ (all t h e) in
+        let rival = and_left (bit (rivals_of arcs t) w.0) (bit left w.0) w.2 in
+        nobody all k w.0 w.1 (omega (arith, d.ranks.falls t w.0 h w.1 rival)) (and_right _ (bit left w.0) w.2)
+
+    pub fewer : left < 2 ^ 64 → x.left < 2 ^ 64 → ¬ (left ≡ 0) → x.left < left
+    fewer small small' some =
+        let part : x.left ≡ bit_and left x.left =
+        same_set x.left (bit_and left x.left) small' (lt_of_le_of_lt (and_le_l left x.left) small)
+        (λ k h. grind (arith, bit-and left x.left k, r.waits k h)) in
+        let other : ¬ (x.left ≡ left) =
+        λ e. some (same_set left 0 small (omega arith)
+        (λ t h. not_true_false (bit left t) (nobody (λ u l q. and_right (bit left u) _
+        (sym (r.waits u l) ∙ ap (λ (z : ℕ). bit z u) e ∙ q)) (suc (d.ranks.rank t)) t h (omega arith))
+        ∙ sym (bit_zero t))) in
+        omega (arith, and_le_l left x.left)
 
   module _ {x : Round} (r : Decided left out m rows arcs w s x) (small : out < 2 ^ 64) (small' : x.out < 2 ^ 64) where
     abbrev keep : ℕ → ℕ → Bool
@@ -146,11 +118,7 @@ module _ {able : ℕ} {m rows arcs : List ℕ} {w s : List (List ℕ)} {lower k 
     -- Whoever has none of those left for a rival does not wait.
     free : (t : ℕ) → ((u : ℕ) → u < 64 → bit (rivals_of arcs t) u ≡ true → bit left u ≡ false)
         → waits_for arcs left t ≡ false
-    free t none = none_intro 64 _ (λ u h. go u h (bit (rivals_of arcs t) u) refl)
-      where
-        go : (u : ℕ) → u < 64 → (b : Bool) → bit (rivals_of arcs t) u ≡ b → (b && bit left u) ≡ false
-        go u h true e = none u h e
-        go u h false e = refl
+    free t none = none_intro 64 _ (λ u h. grind (arith, none u h))
 
     -- And who does not wait has none of those left for a rival.
     unled : (t u : ℕ) → u < 64 → waits_for arcs left t ≡ false → bit (rivals_of arcs t) u ≡ true → bit left u ≡ false
@@ -170,14 +138,10 @@ module _ {able : ℕ} {m rows arcs : List ℕ} {w s : List (List ℕ)} {lower k 
         ap (λ (g : ℕ). pays m rows arcs w s g t)
         (same_set (bit_and out a) (bit_and x.out a) (lt_of_le_of_lt (and_le_l out a) small)
         (lt_of_le_of_lt (and_le_l x.out a) small')
-        (λ u h. bit-and out a u ∙ go u h (bit a u) refl ∙ sym (bit-and x.out a u)))
+        (λ u h. grind (arith, bit-and out a u, bit-and x.out a u, none u h, out_same u h)))
       where
         a : ℕ
         a = rivals_of arcs t
-
-        go : (u : ℕ) → u < 64 → (b : Bool) → bit a u ≡ b → (bit out u && bit a u) ≡ (bit x.out u && bit a u)
-        go u h true e = rw (out_same u h (none u h e))
-        go u h false e = rw (e, and-false (bit out u)) (sym (and-false (bit x.out u)))
 
     -- What is decided in this round or before has none of those left for a rival.
     no_rival : (t : ℕ) → t < 64 → bit able t ≡ true → bit x.left t ≡ false → (b : Bool) → bit left t ≡ b
@@ -186,34 +150,16 @@ module _ {able : ℕ} {m rows arcs : List ℕ} {w s : List (List ℕ)} {lower k 
     no_rival t h e n false l u v a = d.clear t u h v e l a
 
     -- One more round.
-    pub one_more : Settled able m rows arcs w s lower (k + 1) x.left x.out
+    pub one_more : Settled able m rows arcs w s lower x.left x.out
     one_more =
         record {
           ranks = d.ranks;
-          gone = λ t h l.
-              r.waits t h
-              ∙ rw (free t (λ u v a. d.gone u v (omega (arith, d.ranks.falls t u h v a)))) (and-false (bit left t));
-          opens = λ t h e. opened t h (sym (r.waits t h) ∙ e);
+          opens = λ t h e.
+              let o = d.opens t h (and_left (bit left t) _ (sym (r.waits t h) ∙ e)) in
+              (o.0, grind (arith, r.waits t h, r.fires t h, o.1));
           clear = λ t u h v e n a. left_out u v (no_rival t h e n (bit left t) refl u v a);
-          meets = λ t h n. met t h n (bit able t) refl (bit left t) refl;
+          meets = λ t h n.
+              let kept : bit able t ≡ true → keep out t ≡ keep x.out t =
+              λ e. keeps_same t (no_rival t h e n (bit left t) refl) in
+              grind (arith, r.waits t h, r.fires t h, d.opens t h, d.meets t h, kept);
         }
-      where
-        opened : (t : ℕ) → t < 64 → (bit left t && waits_for arcs left t) ≡ true
-            → (bit able t ≡ true) × (bit x.out t ≡ false)
-        opened t h e =
-            let l : bit left t ≡ true = and_left (bit left t) (waits_for arcs left t) e in
-            let q : waits_for arcs left t ≡ true = and_right (bit left t) (waits_for arcs left t) e in
-            let o = d.opens t h l in
-            (o.0, r.fires t h ∙ rw (o.1, l, q))
-
-        met : (t : ℕ) → t < 64 → bit x.left t ≡ false → (a : Bool) → bit able t ≡ a → (b : Bool) → bit left t ≡ b
-            → bit x.out t ≡ (bit able t && keep x.out t)
-        met t h n a e false l = out_same t h l ∙ d.meets t h l ∙ kept a e
-          where
-            kept : (a : Bool) → bit able t ≡ a → (bit able t && keep out t) ≡ (bit able t && keep x.out t)
-            kept true e = rw e (keeps_same t (no_rival t h e n false l))
-            kept false e = rw e
-        met t h n a e true l =
-            let o = d.opens t h l in
-            let q : waits_for arcs left t ≡ false = sym (rw l at (r.waits t h)) ∙ n in
-            r.fires t h ∙ rw (o.0, o.1, l, q) (keeps_same t (no_rival t h o.0 n true l))

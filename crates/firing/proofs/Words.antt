@@ -1,8 +1,9 @@
 -- A walk over the places of a word, the lowest first: whether some place passes is to be found in the rest, where the
 -- places before did not.
-use mathlib.Core.Bool.{Bool, true, false, not, ◌&&◌, and-true, and-false}
-use mathlib.Core.Path.{◌≡◌, refl, sym}
+use mathlib.Core.Bool.{Bool, true, false, not, ◌&&◌}
+use mathlib.Core.Path.{◌≡◌}
 use Prim.Native.Nat.{ℕ, ◌<◌}
+use native.Mathlib.Omega.{arith}
 use lib.Dec.{eqb}
 use borrow.Author.Tests.{eqb-true}
 use Rattle.meaning.specs.Below.{some}
@@ -15,11 +16,7 @@ use Rattle.sets.proofs.Bits.{bit_zero}
 module _ (a k b : ℕ) (rest : (j : ℕ) → bit b j ≡ (bit a j && not (eqb k j))) where
   -- A member that fails the test changes no answer.
   pub passed : (f : ℕ → Bool) → f k ≡ false → some 64 (λ p. bit a p && f p) ≡ some 64 (λ p. bit b p && f p)
-  passed f e = some_same 64 _ _ (λ p h. go p (eqb k p) refl)
-    where
-      go : (p : ℕ) (x : Bool) → eqb k p ≡ x → (bit a p && f p) ≡ (bit b p && f p)
-      go p true q = rw (← eqb-true k p q, e, and-false (bit a k)) (sym (and-false (bit b k)))
-      go p false q = rw (rest p, q, and-true (bit a p))
+  passed f e = some_same 64 _ _ (λ p h. grind (arith, rest p, e, eqb-true k p))
 
 -- A member that passes the test is an answer, and the empty word has none.
 pub found : (a k : ℕ) (f : ℕ → Bool) → k < 64 → bit a k ≡ true → f k ≡ true → some 64 (λ p. bit a p && f p) ≡ true

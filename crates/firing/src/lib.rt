@@ -23,22 +23,11 @@ struct Round {
 fn at_place(set: u64, row: &[u16; 64]) -> u32
     ensures { (result ≡ sum 64 (λ t. cond (bit set t) (get_or row.now t 0) 0)) × (result ≤ 4194240) }
 {
-    let mut left = set;
-    let mut t = sets::lowest(left);
-    let mut taken: u32 = 0;
-    while t < 64 {
+    let mut taken = 0u32;
+    for t in sets::members(set) {
         taken += numbers::wide(row[t]);
-        left = sets::rest(left);
-        t = sets::lowest(left);
     }
     taken
-}
-
-// Tokens less those taken, none where more are taken.
-fn rest_of(tokens: u32, taken: u32) -> u32
-    ensures { result ≡ tokens - taken }
-{
-    if taken < tokens { tokens - taken } else { 0 }
 }
 
 // Does an arc of this weight and sort stop its transition, with so many tokens on its place?
@@ -69,17 +58,15 @@ fn stopped_in(
     ensures { result ≡ stopped_among tokens.now rows.now w.now s.now
         word from g t }
 {
-    let mut left = word;
-    while left != 0 {
-        let p = from + sets::lowest(left);
+    for k in sets::members(word) {
+        let p = from + k;
         let takers = g & rows[8 * p + TAKERS];
         if takers != 0 {
             let taken = at_place(takers, &w[p]);
-            if stops(rest_of(tokens[p], taken), w[p][t], s[p][t]) {
+            if stops(tokens[p].saturating_sub(taken), w[p][t], s[p][t]) {
                 return true;
             }
         }
-        left = sets::rest(left);
     }
     false
 }
@@ -121,20 +108,15 @@ fn one_round(
     ensures { Decided left out tokens.now rows.now arcs.now w.now
         s.now result }
 {
-    let mut todo = left;
-    let mut keep: u64 = 0;
+    let mut keep = 0u64;
     let mut more = out;
-    while todo != 0 {
-        let t = sets::lowest(todo);
+    for t in sets::members(left) {
         let above = arcs[5 * t + RIVALS];
         if sets::meet(above, left) {
             keep = sets::union(keep, sets::single(t));
-        } else {
-            if fires(tokens, rows, arcs, w, s, out & above, t) {
-                more = sets::union(more, sets::single(t));
-            }
+        } else if fires(tokens, rows, arcs, w, s, out & above, t) {
+            more = sets::union(more, sets::single(t));
         }
-        todo = sets::rest(todo);
     }
     Round {
         left: keep,
@@ -142,8 +124,8 @@ fn one_round(
     }
 }
 
-// The fired set. Whoever has no rivals fires at once, if firable; `lower` has the others, and they are decided in at
-// most 64 rounds, those of rank k by round k.
+// The fired set. Whoever has no rivals fires at once, if firable; `lower` has the others, and they are decided in
+// rounds, at least one of those left in each.
 pub fn fired(
     able: u64,
     lower: u64,
@@ -159,15 +141,10 @@ pub fn fired(
 {
     let mut left = able & lower;
     let mut out = sets::less(able, lower);
-    let mut k: usize = 0;
-    while k < 64 {
-        if left == 0 {
-            return out;
-        }
+    while left != 0 {
         let x = one_round(left, out, tokens, rows, arcs, w, s);
         left = x.left;
         out = x.out;
-        k += 1;
     }
     out
 }

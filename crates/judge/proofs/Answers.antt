@@ -2,50 +2,44 @@
 -- the first of the other.
 use mathlib.Core.Bool.{Bool, true, false, cond, not}
 use mathlib.Core.List.{List}
-use mathlib.Core.Logic.{◌≢◌}
 use mathlib.Core.Path.{◌≡◌, refl, sym, ap, ◌∙◌}
-use Prim.Native.Nat.{ℕ, zero, suc, ◌*◌, ◌%◌, ◌≤◌, ◌<◌}
-use native.Mathlib.Nat.{lt_of_not-le}
+use Prim.Native.Nat.{ℕ, zero, suc, ◌*◌, ◌≤◌, ◌<◌}
 use native.Mathlib.Omega.{arith}
-use lib.Dec.{eqb, ltb}
 use lib.ListN.{length, replicate, length-replicate}
-use borrow.Author.Tests.{lt-ltb, le-ltb, ltb-true, ltb-false, eqb-true, eqb-false, eq-eqb, not-true}
+use borrow.Author.Tests.{eqb-true, eq-eqb}
+use Rattle.std.proofs.Common.{Err}
+use Rattle.std.proofs.lemmas.Grind.{common_steps}
 use Rattle.meaning.specs.Below.{some, first}
 use Rattle.meaning.specs.Bytes.{bit}
 use Rattle.meaning.specs.Table.{Table, table, is}
 use Rattle.meaning.specs.Answer.{refused}
-use Rattle.meaning.specs.Defined.{bad_length, fault, faulty, unknown, empty, check}
-use Rattle.meaning.proofs.Bool.{and_left, and_true, same_test, not_both, or_false_right}
+use Rattle.meaning.specs.Defined.{bad_length, faulty, unknown, empty, isolated, check}
+use Rattle.meaning.proofs.Bool.{and_left, and_true, same_test, not_both}
 use Rattle.meaning.proofs.Reflect.{not_true_false}
-use Rattle.meaning.proofs.Below.{some_intro, some_elim, first_le, first_passes, first_before, first_same, first_none}
+use Rattle.meaning.proofs.Below.{some_intro, some_elim, first_before, first_same, first_none}
 use Rattle.meaning.proofs.Same.{of_kind, shown_transition}
 use Rattle.meaning.proofs.Faults.{faultless}
 use Rattle.rows.specs.declared.Declared.{Declared}
-use Rattle.rows.specs.Extent.{Roomy}
 use Rattle.rows.specs.Rows.{has}
 use Rattle.rows.specs.Filed.{declares, Paired, Filed}
 use Rattle.rows.proofs.Shown.{one_low}
 use Rattle.named.specs.Named.{unknown_in, unknown_at, isolated_in}
 use Rattle.named.proofs.Says.{Whole, unknown_same, shows_there, isolated_same}
-use Rattle.scan.specs.declared.Pass.{Pass}
-use Rattle.scan.specs.Scan.{Scanned}
-use Rattle.judge.specs.declared.Verdict.{Verdict}
+use Rattle.answers.specs.declared.Refusal.{Refusal}
+use Rattle.answers.specs.Numbered.{refusal_told}
+use Rattle.scan.specs.Scan.{FirstFault, AllFiled}
 use Rattle.judge.specs.Judged.{unknown_first, none_of, JudgeAsks, Judges}
 use Rattle.judge.proofs.Stages.{from_5, from_6, from_7, from_8, Left, past_1, stops, passes}
-
--- A search that comes to its end.
-pub reached : (n : ℕ) (p : ℕ → Bool) {k : ℕ} → k ≡ first n p → n ≤ k → first n p ≡ n
-reached n p e l = omega (arith, first_le n p)
 
 -- A table whose length is right has at most 8,192 bytes.
 pub few_bytes : (bs : List ℕ) → bad_length bs ≡ false → length bs ≤ 8192
 unfolding bad_length
-few_bytes bs e = ltb-false 8192 (length bs) (or_false_right (not (eqb (length bs % 8) 0)) (ltb 8192 (length bs)) e)
+few_bytes bs e = grind (arith, common_steps)
 
 -- A refusal says nothing of the rows.
-pub refusal : {bs : List ℕ} {n : ℕ} {v : Verdict} {rows : List ℕ} {w s : List (List ℕ)} {heads posts times : List ℕ}
-    → v.number ≢ 0 → refused v.number v.at ≡ check bs → Judges bs n v rows w s heads posts times
-refusal n e = record { answer = e; net_of = λ z. absurd (n z); lengths = λ z. absurd (n z) }
+pub refusal : {bs : List ℕ} {n : ℕ} {e : Refusal} {rows : List ℕ} {w s : List (List ℕ)} {heads posts times : List ℕ}
+    → refusal_told e ≡ check bs → Judges bs n (Err e) rows w s heads posts times
+refusal e = record { answer = e; net_of = tt; lengths = tt }
 
 -- There are rows and sorts for n numbers.
 module _ {tb : Table} {n : ℕ} {rows : List ℕ} {w s : List (List ℕ)} {heads posts times : List ℕ}
@@ -69,51 +63,26 @@ pub record Faultless (bs : List ℕ) (n : ℕ) (known : Declared) (rows : List �
   pub paired : Paired (table bs) (table bs).records rows
 
 -- The answers 2, 3 and 4: the pass stops at the first record that meets one, or comes to the end.
-module _ (bs : List ℕ) {p : Pass} {rows : List ℕ} {w s : List (List ℕ)} {heads posts times : List ℕ}
-    (right : bad_length bs ≡ false) (scanned : Scanned (table bs) p rows w s heads posts times) where
-  stopped : p.number ≢ 0 → p.at < (table bs).records
-  stopped n =
-      lt_of_not-le
-      (λ (far : (table bs).records ≤ p.at). n (scanned.number_is ∙ rw (le-ltb p.at (table bs).records far)))
+module _ (bs : List ℕ) (right : bad_length bs ≡ false) where
+  pub verdict_2 : {e : Refusal} → FirstFault (table bs) e → refusal_told e ≡ check bs
+  verdict_2 fault = fault.told ∙ stops bs _ (from_5 bs) (past_1 bs right) fault.some refl
 
-  pub verdict_2 : p.number ≢ 0 → refused p.number p.at ≡ check bs
-  verdict_2 n =
-      let number : p.number ≡ fault (table bs) p.at =
-      scanned.number_is ∙ rw (lt-ltb p.at (table bs).records (stopped n)) in
-      rw number (stops bs _ (from_5 bs) (past_1 bs right) scanned.at_is (stopped n))
-
-  ends : p.number ≡ 0 → (table bs).records ≤ p.at
-  unfolding faulty
-  ends e = go (ltb p.at (table bs).records) refl
-    where
-      go : (b : Bool) → ltb p.at (table bs).records ≡ b → (table bs).records ≤ p.at
-      go false q = ltb-false p.at (table bs).records q
-      go true q =
-          let l : p.at < (table bs).records = ltb-true p.at (table bs).records q in
-          let told : p.number ≡ fault (table bs) p.at = scanned.number_is ∙ rw q in
-          let number : fault (table bs) p.at ≡ 0 = sym told ∙ e in
-          let below : first (table bs).records (faulty (table bs)) < (table bs).records = rw (sym scanned.at_is) l in
-          let bad = not-true _ (first_passes (table bs).records (faulty (table bs)) below) in
-          absurd
-          (eqb-false (fault (table bs) (first (table bs).records (faulty (table bs)))) 0 bad
-          (rw scanned.at_is at number))
-
-  pub no_fault : {n : ℕ} → n ≤ 128 → Roomy (table bs) n → p.number ≡ 0
-      → Faultless bs n p.known rows w s heads posts times
-  no_fault {n} few roomy e =
+  pub no_fault : {n : ℕ} {known : Declared} {rows rows' : List ℕ} {w s w' s' : List (List ℕ)}
+      {heads posts times heads' posts' times' : List ℕ}
+      → JudgeAsks (table bs) n rows w s heads posts times → AllFiled (table bs) known rows' w' s' heads' posts' times'
+      → Faultless bs n known rows' w' s' heads' posts' times'
+  no_fault asks all =
       record {
-        left = passes bs _ (from_5 bs) (past_1 bs right) scanned.at_is (ends e);
+        left = passes bs _ (from_5 bs) (past_1 bs right) all.none;
         fine = fine;
-        few = few;
-        below = λ r h. roomy r h (one_low (faultless (table bs) r (fine r h)).0);
-        filed = scanned.filed e;
-        paired = scanned.paired e;
+        few = asks.few;
+        below = λ r h. asks.roomy r h (one_low (faultless (table bs) r (fine r h)).0);
+        filed = all.filed;
+        paired = all.paired;
       }
     where
       fine : (r : ℕ) → r < (table bs).records → faulty (table bs) r ≡ false
-      fine r h =
-          let end = reached (table bs).records (faulty (table bs)) scanned.at_is (ends e) in
-          first_before (table bs).records (faulty (table bs)) r (rw end h)
+      fine r h = first_before (table bs).records (faulty (table bs)) r (rw all.none h)
 
 module _ {bs : List ℕ} {n : ℕ} {known : Declared} {rows : List ℕ} {w s : List (List ℕ)} {heads posts times : List ℕ}
     (f : Faultless bs n known rows w s heads posts times) where
@@ -133,30 +102,26 @@ module _ {bs : List ℕ} {n : ℕ} {known : Declared} {rows : List ℕ} {w s : L
   unfolding unknown_first
   unknowns = go (unknown_in rows known n) refl
     where
-      same : first (table bs).records (unknown_at (table bs) known) ≡ first (table bs).records (unknown (table bs))
-      same = first_same (table bs).records _ _ (unknown_same whole)
-
       go : (b : Bool) → unknown_in rows known n ≡ b
           → cond b (first (table bs).records (unknown_at (table bs) known)) (table bs).records
           ≡ first (table bs).records (unknown (table bs))
-      go true e = same
+      go true e = first_same (table bs).records _ _ (unknown_same whole)
       go false e =
           sym
           (first_none (table bs).records (unknown_at (table bs) known)
           (λ r h. not_true_false (unknown_at (table bs) known r) (λ q. not_both (shows_there whole r h q) e)))
-          ∙ same
+          ∙ first_same (table bs).records _ _ (unknown_same whole)
 
-  module _ {u : ℕ} (search : u ≡ unknown_first (table bs) rows known n) where
-    pub verdict_5 : u < (table bs).records → refused 5 u ≡ check bs
-    verdict_5 = stops bs _ (from_6 bs) f.left (search ∙ unknowns)
+  pub verdict_5 : {u : ℕ} → (u < (table bs).records) × (unknown_first (table bs) rows known n ≡ u)
+      → refused 5 u ≡ check bs
+  verdict_5 found = stops bs _ (from_6 bs) f.left found.0 (sym unknowns ∙ found.1)
 
-    pub none_unknown : (table bs).records ≤ u → (r : ℕ) → r < (table bs).records → unknown (table bs) r ≡ false
-    none_unknown h r l =
-        first_before (table bs).records (unknown (table bs)) r
-        (rw (reached (table bs).records (unknown (table bs)) (search ∙ unknowns) h) l)
+  module _ (none : unknown_first (table bs) rows known n ≡ (table bs).records) where
+    pub none_unknown : (r : ℕ) → r < (table bs).records → unknown (table bs) r ≡ false
+    none_unknown r l = first_before (table bs).records (unknown (table bs)) r (rw (← unknowns, none) l)
 
-    pub past_5 : (table bs).records ≤ u → Left bs (from_6 bs)
-    past_5 = passes bs _ (from_6 bs) f.left (search ∙ unknowns)
+    pub past_5 : Left bs (from_6 bs)
+    past_5 = passes bs _ (from_6 bs) f.left (sym unknowns ∙ none)
 
   -- Answer 6: something is declared exactly if some record declares it.
   some_places : some 128 (has known) ≡ some (table bs).records (is (table bs) 1)
@@ -199,17 +164,23 @@ module _ {bs : List ℕ} {n : ℕ} {known : Declared} {rows : List ℕ} {w s : L
   none_same (suc zero) h = ap not some_transitions
   none_same (suc (suc k)) h = absurd (omega arith)
 
-  module _ (left : Left bs (from_6 bs)) {k : ℕ} (search : k ≡ first 2 (none_of known)) where
-    pub verdict_6 : k < 2 → refused 6 k ≡ check bs
-    verdict_6 = stops bs _ (from_7 bs) left (search ∙ first_same 2 _ _ none_same)
+  none_is : first 2 (none_of known) ≡ first 2 (empty (table bs))
+  none_is = first_same 2 _ _ none_same
 
-    pub past_6 : 2 ≤ k → Left bs (from_7 bs)
-    past_6 = passes bs _ (from_7 bs) left (search ∙ first_same 2 _ _ none_same)
+  module _ (left : Left bs (from_6 bs)) where
+    pub verdict_6 : first 2 (none_of known) < 2 → refused 6 (first 2 (none_of known)) ≡ check bs
+    verdict_6 found = stops bs _ (from_7 bs) left found (sym none_is)
+
+    pub past_6 : first 2 (none_of known) ≡ 2 → Left bs (from_7 bs)
+    past_6 none = passes bs _ (from_7 bs) left (sym none_is ∙ none)
 
   -- Answer 7: who is isolated by the rows is so by the table.
-  module _ (left : Left bs (from_7 bs)) {k : ℕ} (search : k ≡ first 192 (isolated_in rows known)) where
-    pub verdict_7 : k < 192 → refused 7 k ≡ check bs
-    verdict_7 = stops bs _ (from_8 bs) left (search ∙ first_same 192 _ _ (isolated_same whole))
+  isolated_is : first 192 (isolated_in rows known) ≡ first 192 (isolated (table bs))
+  isolated_is = first_same 192 _ _ (isolated_same whole)
 
-    pub past_7 : 192 ≤ k → Left bs (from_8 bs)
-    past_7 = passes bs _ (from_8 bs) left (search ∙ first_same 192 _ _ (isolated_same whole))
+  module _ (left : Left bs (from_7 bs)) where
+    pub verdict_7 : {k : ℕ} → (k < 192) × (first 192 (isolated_in rows known) ≡ k) → refused 7 k ≡ check bs
+    verdict_7 found = stops bs _ (from_8 bs) left found.0 (sym isolated_is ∙ found.1)
+
+    pub past_7 : first 192 (isolated_in rows known) ≡ 192 → Left bs (from_8 bs)
+    past_7 none = passes bs _ (from_8 bs) left (sym isolated_is ∙ none)

@@ -23,7 +23,7 @@ use Rattle.conflict.specs.Settled.{unsettled_by, LeastAsks}
 use Rattle.conflict.proofs.Whole as conflict
 use Rattle.conflict.proofs.Say.{least_pair, no_pair}
 use Rattle.judge.proofs.Stages.{from_8, from_9, Left, stops, passes, accepts}
-use Rattle.judge.proofs.Answers.{reached, Faultless, whole}
+use Rattle.judge.proofs.Answers.{Faultless, whole}
 
 module _ {bs : List ℕ} {n : ℕ} {known : Declared} {rows : List ℕ} {w s : List (List ℕ)} {heads posts times : List ℕ}
     (f : Faultless bs n known rows w s heads posts times) where
@@ -49,12 +49,12 @@ module _ {bs : List ℕ} {n : ℕ} {known : Declared} {rows : List ℕ} {w s : L
     filed = filed_kept f.filed closes
 
     -- Answer 8: the first transition above itself by the closed rows.
-    module _ (left : Left bs (from_8 bs)) {k : ℕ} (search : k ≡ first 64 (λ t. bit (below rows' t) t)) where
-      pub verdict_8 : k < 64 → refused 8 k ≡ check bs
-      verdict_8 = stops bs _ (from_9 bs) left (search ∙ circle_same closed)
+    module _ (left : Left bs (from_8 bs)) where
+      pub verdict_8 : {k : ℕ} → (k < 64) × (first 64 (λ t. bit (below rows' t) t) ≡ k) → refused 8 k ≡ check bs
+      verdict_8 found = stops bs _ (from_9 bs) left found.0 (sym (circle_same closed) ∙ found.1)
 
-      pub past_8 : 64 ≤ k → Left bs (from_9 bs)
-      past_8 = passes bs _ (from_9 bs) left (search ∙ circle_same closed)
+      pub past_8 : first 64 (λ t. bit (below rows' t) t) ≡ 64 → Left bs (from_9 bs)
+      past_8 none = passes bs _ (from_9 bs) left (sym (circle_same closed) ∙ none)
 
     -- Answer 9: the first pair that nothing settles by the rows. No record names an unknown.
     module _ (declared : (r : ℕ) → r < (table bs).records → unknown (table bs) r ≡ false) where
@@ -75,19 +75,20 @@ module _ {bs : List ℕ} {n : ℕ} {known : Declared} {rows : List ℕ} {w s : L
           → LeastAsks n pairs rows' w s
       least_asks = conflict.least_asks all
 
-      module _ (left : Left bs (from_9 bs)) {pairs : List ℕ} (conflicts : Conflicts rows' pairs) {q : ℕ}
-          (search : q ≡ first 4096 (unsettled_by pairs rows' w s n)) where
-        pub verdict_9 : q < 4096 → refused 9 q ≡ check bs
-        verdict_9 h =
-            let pair = least_pair all conflicts (rw (sym search) h) in
-            ap (refused 9) (search ∙ pair.1) ∙ stops bs _ [] left refl pair.0
+      module _ (left : Left bs (from_9 bs)) {pairs : List ℕ} (conflicts : Conflicts rows' pairs) where
+        pub verdict_9 : {q : ℕ} → q < 4096 → first 4096 (unsettled_by pairs rows' w s n) ≡ q
+            → refused 9 q ≡ check bs
+        verdict_9 low found =
+            let pair = least_pair all conflicts (rw found low) in
+            ap (refused 9) (sym found ∙ pair.1) ∙ stops bs _ [] left pair.0 refl
 
         -- Nothing is found: the table is accepted.
-        pub accepted_is : 4096 ≤ q → accepted 0 ≡ check bs
-        accepted_is h =
-            let none = first_none 64 (in_unsettled (table bs)) (no_pair all conflicts (reached 4096 _ search h)) in
-            accepts bs (passes bs _ [] left refl (omega (arith, none)))
+        module _ (none : first 4096 (unsettled_by pairs rows' w s n) ≡ 4096) where
+          pub accepted_is : accepted 0 ≡ check bs
+          accepted_is =
+              accepts bs
+              (passes bs _ [] left (first_none 64 (in_unsettled (table bs)) (no_pair all conflicts none)))
 
-        pub net_of : 4096 ≤ q → NetOf bs n rows' w s heads posts times known
-        net_of h =
-            record { sound = sym (accepted_is h); filed = filed; closed = closed; few = f.few; below = f.below }
+          pub net_of : NetOf bs n rows' w s heads posts times known
+          net_of =
+              record { sound = sym accepted_is; filed = filed; closed = closed; few = f.few; below = f.below }

@@ -1,43 +1,27 @@
 -- The answers 1 to 9 one stage after the other: a stage that finds nothing hands on to the next, and the first that
 -- finds something answers.
-use mathlib.Core.Bool.{true, false, not, or-true}
+use mathlib.Core.Bool.{true, false}
 use mathlib.Core.List.{List, [], ◌∷◌}
 use mathlib.Core.Path.{◌≡◌, sym, ap, ◌∙◌}
-use Prim.Native.Nat.{ℕ, ◌+◌, ◌*◌, ◌%◌, ◌≤◌, ◌<◌}
+use Prim.Native.Nat.{ℕ, ◌+◌, ◌*◌, ◌<◌}
 use native.Mathlib.Omega.{arith}
-use lib.Dec.{eqb}
-use lib.ListN.{length}
-use borrow.Author.Tests.{lt-ltb, le-ltb, eq-eqb, ne_eqb}
+use Rattle.std.proofs.lemmas.Grind.{common_steps}
 use Rattle.meaning.specs.Below.{first}
 use Rattle.meaning.specs.Table.{table}
 use Rattle.meaning.specs.Answer.{Answer, accepted, refused, Check, check_of, decide}
 use Rattle.meaning.specs.Defined.{bad_length, fault, faulty, unknown, empty, isolated, circle, unsettled, in_unsettled}
 use Rattle.meaning.specs.Defined.{table_checks, check}
-use Rattle.meaning.proofs.Below.{first_le}
 
 -- A check whose first candidate is none of those below hands on; another answers for it.
 pub hands_on : (c : Check) (cs : List Check) (ok : Answer) → first c.below c.bad ≡ c.below
     → decide (c ∷ cs) ok ≡ decide cs ok
 unfolding decide
-hands_on c cs ok e = rw (e, le-ltb c.below c.below (omega arith))
+hands_on c cs ok e = grind (arith, common_steps)
 
 pub answers : (c : Check) (cs : List Check) (ok : Answer) → first c.below c.bad < c.below
     → decide (c ∷ cs) ok ≡ c.answer (first c.below c.bad)
 unfolding decide
-answers c cs ok l = rw (lt-ltb (first c.below c.bad) c.below l)
-
--- When the length is wrong, and when it is right.
-pub length_odd : (bs : List ℕ) → (length bs % 8 ≡ 0 → ⊥) → bad_length bs ≡ true
-unfolding bad_length
-length_odd bs e = rw (ne_eqb (length bs % 8) 0 e)
-
-pub length_long : (bs : List ℕ) → 8192 < length bs → bad_length bs ≡ true
-unfolding bad_length
-length_long bs l = rw (lt-ltb 8192 (length bs) l) (or-true (not (eqb (length bs % 8) 0)))
-
-pub length_right : (bs : List ℕ) → length bs % 8 ≡ 0 → length bs ≤ 8192 → bad_length bs ≡ false
-unfolding bad_length
-length_right bs e l = rw (eq-eqb (length bs % 8) 0 e, le-ltb 8192 (length bs) l)
+answers c cs ok l = grind (arith, common_steps)
 
 -- THE CHECKS OF A TABLE, FROM EACH STAGE ON
 
@@ -72,15 +56,13 @@ pub past_1 : (bs : List ℕ) → bad_length bs ≡ false → Left bs (from_2 bs)
 unfolding check table_checks first
 past_1 bs e = hands_on (check_of 1 (λ k. bad_length bs) (λ k. refused 1 0)) _ (accepted 0) (rw e)
 
--- A search that comes to what the next check comes to: where it stops below its end the check answers, else those
--- behind it are left.
-module _ (bs : List ℕ) (c : Check) (cs : List Check) {k : ℕ} (left : Left bs (c ∷ cs))
-    (same : k ≡ first c.below c.bad) where
-  pub stops : k < c.below → c.answer k ≡ check bs
-  stops l = ap c.answer same ∙ sym (left ∙ answers c cs (accepted 0) (rw (sym same) l))
+-- Where the next check finds one it answers, and where it finds none those behind it are left.
+module _ (bs : List ℕ) (c : Check) (cs : List Check) (left : Left bs (c ∷ cs)) where
+  pub stops : {k : ℕ} → k < c.below → first c.below c.bad ≡ k → c.answer k ≡ check bs
+  stops l same = ap c.answer (sym same) ∙ sym (left ∙ answers c cs (accepted 0) (rw same l))
 
-  pub passes : c.below ≤ k → Left bs cs
-  passes l = left ∙ hands_on c cs (accepted 0) (omega (arith, first_le c.below c.bad))
+  pub passes : first c.below c.bad ≡ c.below → Left bs cs
+  passes none = left ∙ hands_on c cs (accepted 0) none
 
 -- None is left: the table is accepted.
 pub accepts : (bs : List ℕ) → Left bs [] → accepted 0 ≡ check bs

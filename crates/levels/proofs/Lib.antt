@@ -1,4 +1,3 @@
 -- The laws of walks over the members of a set, and of levels.
 pub mod Walk
 pub mod Sides
-pub mod Kept

@@ -5,10 +5,7 @@ use Prim.Native.Nat.{ℕ}
 use Rattle.meaning.specs.Bytes.{bit}
 use Rattle.sets.proofs.Bits.{bit_zero}
 
--- Before the first turn nothing is kept, and with nothing left all that pass are.
-pub none_kept : (arcs t : ℕ) (x : Bool) → (bit 0 t || (bit arcs t && x)) ≡ (bit arcs t && x)
-none_kept arcs t x = rw (bit_zero t)
-
+-- With nothing left all that pass are kept.
 pub all_in : (f : ℕ → Bool) (arcs left r t : ℕ) → left ≡ 0 → (bit r t || (bit left t && f t)) ≡ (bit arcs t && f t)
     → bit r t ≡ (bit arcs t && f t)
 all_in f arcs left r t e q = sym (rw (e, bit_zero t) (or-false (bit r t))) ∙ q

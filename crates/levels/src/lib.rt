@@ -26,16 +26,11 @@ pub const LEFT: usize = 256;
 pub fn lacking(tokens: u32, arcs: u64, w: &[u16; 64], s: &[u8; 64]) -> u64
     ensures { (t : ℕ) → bit result t ≡ (bit arcs t && lacks_of w.now s.now tokens t) }
 {
-    let mut left = arcs;
     let mut lacks = 0u64;
-    while left != 0 {
-        let t = sets::lowest(left);
-        if s[t] != 2 {
-            if tokens < numbers::wide(w[t]) {
-                lacks = sets::union(lacks, sets::single(t));
-            }
+    for t in sets::members(arcs) {
+        if s[t] != 2 && tokens < numbers::wide(w[t]) {
+            lacks = sets::union(lacks, sets::single(t));
         }
-        left = sets::rest(left);
     }
     lacks
 }
@@ -56,43 +51,28 @@ fn narrowed(x: Level, tokens: u32, t: usize, weight: u16, sort: u8) -> Level
     ensures { Narrowed tokens t weight sort x result }
 {
     let wanted = weight as u32;
-    let held = x.held;
-    let lacks = x.lacks;
-    let from = x.from;
-    let upto = x.upto;
     if tokens < wanted {
-        let end = if wanted - 1 < upto { wanted - 1 } else { upto };
-        if sort != 2 {
-            let alone = sets::single(t);
-            return Level {
-                held: sets::union(held, alone),
-                lacks: sets::union(lacks, alone),
-                from,
-                upto: end,
-            };
+        let upto = x.upto.min(wanted - 1);
+        if sort == 2 {
+            return Level { upto, ..x };
         }
+        let alone = sets::single(t);
         return Level {
-            held,
-            lacks,
-            from,
-            upto: end,
+            held: sets::union(x.held, alone),
+            lacks: sets::union(x.lacks, alone),
+            upto,
+            ..x
         };
     }
-    let begin = if from < wanted { wanted } else { from };
+    let from = x.from.max(wanted);
     if sort == 2 {
         return Level {
-            held: sets::union(held, sets::single(t)),
-            lacks,
-            from: begin,
-            upto,
+            held: sets::union(x.held, sets::single(t)),
+            from,
+            ..x
         };
     }
-    Level {
-        held,
-        lacks,
-        from: begin,
-        upto,
-    }
+    Level { from, ..x }
 }
 
 // The level of so many tokens at a place with these arcs. A place without a token is a level of its own.
@@ -100,26 +80,15 @@ pub fn level_of(tokens: u32, arcs: u64, w: &[u16; 64], s: &[u8; 64]) -> Level
     requires { tokens < 2147483647 }
     ensures { LevelOf tokens arcs w.now s.now result }
 {
-    let mut x = if tokens == 0 {
-        Level {
-            held: 0,
-            lacks: 0,
-            from: 0,
-            upto: 0,
-        }
-    } else {
-        Level {
-            held: 0,
-            lacks: 0,
-            from: 1,
-            upto: 2147483647,
-        }
+    let (from, upto) = if tokens == 0 { (0, 0) } else { (1, 2147483647) };
+    let mut x = Level {
+        held: 0,
+        lacks: 0,
+        from,
+        upto,
     };
-    let mut left = arcs;
-    while left != 0 {
-        let t = sets::lowest(left);
+    for t in sets::members(arcs) {
         x = narrowed(x, tokens, t, w[t], s[t]);
-        left = sets::rest(left);
     }
     x
 }
@@ -165,11 +134,9 @@ pub fn gather(kept: &[u64; 384], n: usize) -> Seen
 {
     let mut held = 0u64;
     let mut actions = 0u64;
-    let mut p = 0;
-    while p < n {
+    for p in 0..n {
         held = sets::union(held, kept[p]);
         actions = sets::union(actions, kept[ACTIVE + p]);
-        p += 1;
     }
     Seen { held, actions }
 }

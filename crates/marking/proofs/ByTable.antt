@@ -21,22 +21,14 @@ use Rattle.rows.specs.Filed.{link, post_of, Posted}
 use Rattle.rows.proofs.Arcs.{link_le}
 use Rattle.marking.specs.Moves.{place_of, weight_of, next_of, given, put_at, Leads, Chains}
 use Rattle.marking.proofs.Chain.{given_none, given_arc}
-use Rattle.sets.proofs.Members.{over}
+use Rattle.sets.proofs.Taking.{over}
+use Rattle.std.proofs.lemmas.Grind.{common_steps}
 
 -- A link is to a number below n that passes.
 link_passes : (n : ℕ) (f : ℕ → Bool) (k : ℕ) → link n f ≡ suc k → (k < n) × (f k ≡ true)
 unfolding link
 link_passes zero f k e = absurd (omega (arith, e))
-link_passes (suc n) f k e = go (f n) refl e (link_passes n f k)
-  where
-    go : (b : Bool) → f n ≡ b → cond b (suc n) (link n f) ≡ suc k → (link n f ≡ suc k → (k < n) × (f k ≡ true))
-        → (k < suc n) × (f k ≡ true)
-    go true q z before =
-        let same : n ≡ k = omega arith in
-        (omega arith, ap f (sym same) ∙ q)
-    go false q z before =
-        let w = before z in
-        (omega (arith, w.0), w.1)
+link_passes (suc n) f k e = grind (arith, common_steps, link_passes n f k)
 
 module _ {tb : Table} {r : ℕ} {heads posts : List ℕ} (posted : Posted tb r heads posts) where
   -- The chain from the link to the last post arc of t below n puts what the post arcs of t below n put.
@@ -102,11 +94,7 @@ nothing false = refl
 
 -- A sum of sums over the members is the sum of the two.
 over_add : (s : ℕ) (f g : ℕ → ℕ) → over s (λ t. f t + g t) ≡ over s f + over s g
-over_add s f g = sum_same 64 _ _ (λ t h. go (bit s t) (f t) (g t)) ∙ sum_add 64 _ _
-  where
-    go : (b : Bool) (x y : ℕ) → cond b (x + y) 0 ≡ cond b x 0 + cond b y 0
-    go true x y = refl
-    go false x y = refl
+over_add s f g = sum_same 64 _ _ (λ t h. grind (arith, common_steps)) ∙ sum_add 64 _ _
 
 -- Record k is a post arc to place p of a transition that fires.
 abbrev pub puts : Table → ℕ → ℕ → ℕ → Bool
@@ -120,10 +108,7 @@ module _ (tb : Table) (fired p : ℕ) where
   one_puts n low = go (post tb n) refl
     where
       own : (a b : Bool) (x : ℕ) → cond a (cond b x 0) 0 ≡ cond (b && a) x 0
-      own true true x = refl
-      own true false x = refl
-      own false true x = refl
-      own false false x = refl
+      own a b x = grind (arith, common_steps)
 
       go : (b : Bool) → post tb n ≡ b
           → over fired (λ t. cond (b && eqb (tb.two n) t && eqb (tb.one n) p) (tb.four n) 0)
@@ -174,18 +159,10 @@ pub put_low : {tb : Table} {r : ℕ} {heads posts : List ℕ} → Posted tb r he
 put_low {tb} {r} posted low few small fired p =
     rw (put_is posted low fired p) (omega (
       arith,
-      sum_mono r _ (λ k. 65535) (λ k h. go k h (post tb k) refl),
+      sum_mono r (λ k. cond (puts tb fired p k) (tb.four k) 0) (λ k. 65535)
+          (λ k h. grind (arith, common_steps, small k h)),
       sum_same_all r 65535,
     ))
-  where
-    at_most : (b : Bool) (v : ℕ) → v ≤ 65535 → cond b v 0 ≤ 65535
-    at_most true v h = h
-    at_most false v h = omega arith
-
-    go : (k : ℕ) → k < r → (b : Bool) → post tb k ≡ b
-        → cond (b && eqb (tb.one k) p && bit fired (tb.two k)) (tb.four k) 0 ≤ 65535
-    go k h true e = at_most (eqb (tb.one k) p && bit fired (tb.two k)) (tb.four k) (small k h e)
-    go k h false e = omega arith
 
 -- Something is taken at place p exactly if one of those that fire takes there.
 pub taken_some : (fired : ℕ) (rows : List ℕ) (w : List (List ℕ)) (p : ℕ)

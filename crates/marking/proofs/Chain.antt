@@ -1,15 +1,13 @@
 -- A chain of post arcs puts what its first arc puts and what the rest of it puts.
-use mathlib.Core.Bool.{Bool, true, false, cond}
+use mathlib.Core.Bool.{cond}
 use mathlib.Core.List.{List}
-use mathlib.Core.Logic.{⊎_elim}
-use mathlib.Core.Path.{◌≡◌, refl, sym, ap}
+use mathlib.Core.Path.{◌≡◌, refl, ap}
 use Prim.Native.Nat.{ℕ, zero, suc, ◌+◌, ◌≤◌, ◌<◌}
-use native.Mathlib.Nat.{eq-or-lt_of_le}
 use native.Mathlib.Omega.{arith}
 use lib.Dec.{eqb}
 use lib.ListN.{length, get_or, set}
-use lib.Seq.{get_or-set_same, get_or-set_other}
-use borrow.Author.Tests.{eqb-true, eqb-false, eq-eqb, ne_eqb}
+use borrow.Author.Tests.{eq-eqb}
+use Rattle.std.proofs.lemmas.Grind.{common_steps}
 use Rattle.marking.specs.Moves.{place_of, weight_of, next_of, given_upto, given}
 
 -- Going down from any number that is not below the link finds the same chain.
@@ -18,12 +16,7 @@ unfolding given_upto
 found zero posts at p h =
     let none : at ≡ 0 = omega arith in
     rw none
-found (suc n) posts at p h =
-    ⊎_elim (λ (e : at ≡ suc n). rw e)
-    (λ (l : at < suc n).
-    let apart : ¬ (at ≡ suc n) = λ e. omega arith in
-    rw (ne_eqb at (suc n) apart) (found n posts at p (omega arith)))
-    (eq-or-lt_of_le h)
+found (suc n) posts at p h = grind (arith, common_steps, found n posts at p)
 
 -- No arc puts nothing.
 pub given_none : (posts : List ℕ) (at p : ℕ) → at ≡ 0 → given posts at p ≡ 0
@@ -44,18 +37,4 @@ pub one_given : (posts put : List ℕ) (at k : ℕ) (weight : ℕ) → at ≡ su
     → get_or (set put (place_of posts k) (get_or put (place_of posts k) 0 + weight)) p 0
     + given posts (next_of posts k) p
     ≡ get_or put p 0 + given posts at p
-one_given posts put at k weight e down there is p = go (eqb (place_of posts k) p) refl
-  where
-    go : (b : Bool) → eqb (place_of posts k) p ≡ b
-        → get_or (set put (place_of posts k) (get_or put (place_of posts k) 0 + weight)) p 0 + given posts
-        (next_of posts k) p ≡ get_or put p 0 + given posts at p
-    go true q =
-        let here = eqb-true (place_of posts k) p q in
-        let now : get_or (set put (place_of posts k) (get_or put (place_of posts k) 0 + weight)) p 0
-        ≡ get_or put p 0 + weight =
-        rw (← here) (get_or-set_same put (place_of posts k) _ 0 there) in
-        omega (arith, now, is, rw q at (given_arc posts at k p e down))
-    go false q =
-        let now : get_or (set put (place_of posts k) (get_or put (place_of posts k) 0 + weight)) p 0 ≡ get_or put p 0 =
-        get_or-set_other put (place_of posts k) p _ 0 (λ z. eqb-false (place_of posts k) p q (sym z)) in
-        omega (arith, now, rw q at (given_arc posts at k p e down))
+one_given posts put at k weight e down there is p = grind (arith, common_steps, given_arc posts at k p e down)

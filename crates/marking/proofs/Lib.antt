@@ -4,6 +4,5 @@ pub mod Chain
 pub mod ByTable
 pub mod Taking
 pub mod Tallying
-pub mod Sweeping
 pub mod Tending
 pub mod Settling

@@ -1,18 +1,19 @@
 -- The sweep gives each place its new tokens, the tending brings what is kept of it to them. A place from which
 -- something is taken starves those who lack tokens with its rest: on the level it had, those who lacked them before;
 -- below it, whom the tending tells.
-use mathlib.Core.Bool.{Bool, true, false, not, ◌&&◌, ◌||◌, or-false}
+use mathlib.Core.Bool.{Bool, not, ◌&&◌, ◌||◌}
 use mathlib.Core.List.{List}
-use mathlib.Core.Path.{◌≡◌, refl, sym, ap, ap₂, ◌∙◌}
+use mathlib.Core.Path.{◌≡◌, ap₂, ◌∙◌}
 use Prim.Native.Nat.{ℕ, ◌+◌, ◌≤◌, ◌<◌}
 use native.Mathlib.Omega.{arith}
 use lib.Dec.{ltb, eqb}
 use lib.ListN.{get_or}
-use borrow.Author.Tests.{ltb-true, ltb-false, lt-ltb, le-ltb}
+use borrow.Author.Tests.{ltb-true, lt-ltb, le-ltb}
 use Rattle.meaning.specs.Below.{some, first}
 use Rattle.meaning.specs.Bytes.{bit}
 use Rattle.meaning.proofs.Bool.{and_left, and_right, and_true as both, same_test}
 use Rattle.meaning.proofs.Below.{some_intro, some_elim, some_same, first_none}
+use Rattle.std.proofs.lemmas.Grind.{common_steps}
 use Rattle.sets.proofs.Some.{some_or}
 use Rattle.rows.specs.Rows.{inputs, cell}
 use Rattle.levels.specs.Levels.{lacks, Levels, OnLevel}
@@ -39,13 +40,7 @@ short rows w s t p k = bit (inputs rows p) t && lacks (cell w p t) (cell s p t) 
 -- Whoever lacks tokens with more lacks them with less.
 fewer : (a b : Bool) (k j weight : ℕ) → k ≤ j
     → ((a && (b && ltb j weight)) || (a && (b && ltb k weight))) ≡ (a && (b && ltb k weight))
-fewer true true k j weight less = go (ltb j weight) refl
-  where
-    go : (c : Bool) → ltb j weight ≡ c → (c || ltb k weight) ≡ ltb k weight
-    go true z = sym (lt-ltb k weight (omega (arith, ltb-true j weight z)))
-    go false z = refl
-fewer true false k j weight less = refl
-fewer false b k j weight less = refl
+fewer a b k j weight less = grind (arith, common_steps)
 
 module _ {n lack : ℕ} {rows : List ℕ} {w s : List (List ℕ)} {tokens kept levels taken put : List ℕ}
     (asks : SettleAsks n lack rows w s tokens kept levels taken put) where
@@ -77,13 +72,7 @@ module _ {n lack : ℕ} {rows : List ℕ} {w s : List (List ℕ)} {tokens kept l
 
     -- Where nothing is taken or put the new tokens are those that were there.
     pub tokens_are : (p : ℕ) → p < 128 → get_or tokens' p 0 ≡ new_at tokens taken put p
-    tokens_are p h = go (ltb p n) refl
-      where
-        go : (b : Bool) → ltb p n ≡ b → get_or tokens' p 0 ≡ new_at tokens taken put p
-        go true e = new_here p (ltb-true p n e)
-        go false e =
-            let past = ltb-false p n e in
-            omega (arith, old_behind p past, asks.none_taken p past h, asks.none_put p past h)
+    tokens_are p h = grind (arith, common_steps, swept.tokens_are p, asks.none_taken p, asks.none_put p)
 
     -- The rest of a place is its new tokens without what is put.
     rest_is : (p : ℕ) → p < n → rest_at tokens' put p ≡ rest_at tokens taken p
@@ -94,12 +83,11 @@ module _ {n lack : ℕ} {rows : List ℕ} {w s : List (List ℕ)} {tokens kept l
     behind_low p past h = omega (arith, old_behind p past, asks.tokens_low p h)
 
     -- If all bits of the new tokens together are at most 65,535, no place is full.
-    pub none_full : all ≤ 65535 → 128 ≡ first 128 (λ p. ltb 65535 (get_or tokens' p 0))
-    none_full few = sym (first_none 128 _ (λ p h. le-ltb 65535 _ (go p h (ltb p n) refl)))
+    pub none_full : all ≤ 65535 → first 128 (λ p. ltb 65535 (get_or tokens' p 0)) ≡ 128
+    none_full few = first_none 128 _ (λ p h. le-ltb 65535 _ (low p h))
       where
-        go : (p : ℕ) → p < 128 → (b : Bool) → ltb p n ≡ b → get_or tokens' p 0 ≤ 65535
-        go p h true e = omega (arith, new_here p (ltb-true p n e), swept.at_most p (ltb-true p n e), few)
-        go p h false e = behind_low p (ltb-false p n e) h
+        low : (p : ℕ) → p < 128 → get_or tokens' p 0 ≤ 65535
+        low p h = grind (arith, common_steps, tokens_are p h, swept.tokens_are p, swept.at_most p, behind_low p)
 
     -- What the tending asks for.
     pub tend_asks : TendAsks n tokens' put kept levels₁ rows w s
@@ -134,29 +122,36 @@ module _ {n lack : ℕ} {rows : List ℕ} {w s : List (List ℕ)} {tokens kept l
             kept_size = tended.kept_size;
             levels_size = tended.levels_size;
             spans = tended.spans;
-            inside = λ p h. inside p h (ltb p n) refl;
+            inside = λ p h. grind (
+              arith,
+              common_steps,
+              tended.inside p,
+              tended.others p,
+              swept.same_levels p,
+              swept.same_levels (128 + p),
+              swept.tokens_are p,
+              asks.levels_hold.inside p h,
+            );
           }
-        where
-          inside : (p : ℕ) → p < 128 → (b : Bool) → ltb p n ≡ b → OnLevel levels' p (get_or tokens' p 0)
-          inside p h true e = tended.inside p (ltb-true p n e)
-          inside p h false e =
-              let past = ltb-false p n e in
-              let o = tended.others p past h in
-              rw (
-                o.0,
-                o.1,
-                swept.same_levels p (omega arith),
-                swept.same_levels (128 + p) (omega arith),
-                old_behind p past,
-              )
-              (asks.levels_hold.inside p h)
 
       -- Whom one place starves.
       starves_here : (t p : ℕ) → p < 128
           → ((ltb 0 (get_or taken p 0) && bit (lacking_at kept p) t)
           || (ltb p n && fallen rows w s levels₁ (rest_at tokens' put p) p t))
           ≡ (ltb 0 (get_or taken p 0) && short rows w s t p (rest_at tokens taken p))
-      starves_here t p h = go (ltb p n) (ltb 0 (get_or taken p 0)) refl refl
+      starves_here t p h =
+          grind (
+            arith,
+            common_steps,
+            on,
+            lacking_is (get_or tokens p 0) on.0 on.1,
+            lacking_is (rest_at tokens taken p),
+            rest_is p,
+            swept.same_levels p (omega arith),
+            asks.none_taken p,
+            fewer (bit (inputs rows p) t) (not (eqb (cell s p t) 2)) (rest_at tokens taken p) (get_or tokens p 0)
+                (cell w p t) (omega arith),
+          )
         where
           on : OnLevel levels p (get_or tokens p 0)
           on = asks.levels_hold.inside p h
@@ -164,38 +159,6 @@ module _ {n lack : ℕ} {rows : List ℕ} {w s : List (List ℕ)} {tokens kept l
           lacking_is : (k : ℕ) → get_or levels p 0 ≤ k → k ≤ get_or levels (128 + p) 0
               → bit (lacking_at kept p) t ≡ short rows w s t p k
           lacking_is k low high = (asks.levels_hold.spans p h).lacks_is k low high t
-
-          -- The rest is below the level, or on it.
-          taking : (c : Bool) → ltb (rest_at tokens taken p) (get_or levels p 0) ≡ c
-              → (bit (lacking_at kept p) t || (c && short rows w s t p (rest_at tokens taken p)))
-              ≡ short rows w s t p (rest_at tokens taken p)
-          taking true y =
-              ap (λ (b : Bool). b || short rows w s t p (rest_at tokens taken p))
-              (lacking_is (get_or tokens p 0) on.0 on.1)
-              ∙ fewer (bit (inputs rows p) t) (not (eqb (cell s p t) 2)) (rest_at tokens taken p) (get_or tokens p 0)
-              (cell w p t) (omega arith)
-          taking false y =
-              or-false (bit (lacking_at kept p) t)
-              ∙ lacking_is (rest_at tokens taken p) (ltb-false (rest_at tokens taken p) (get_or levels p 0) y)
-              (omega (arith, on.1))
-
-          go : (a b : Bool) → ltb p n ≡ a → ltb 0 (get_or taken p 0) ≡ b
-              → ((b && bit (lacking_at kept p) t) || (a && fallen rows w s levels₁ (rest_at tokens' put p) p t))
-              ≡ (b && short rows w s t p (rest_at tokens taken p))
-          go false true z x =
-              absurd (omega (arith, asks.none_taken p (ltb-false p n z) h, ltb-true 0 (get_or taken p 0) x))
-          go false false z x = refl
-          go true false z x =
-              let stays : get_or levels p 0 ≤ rest_at tokens taken p =
-              omega (arith, on.0, ltb-false 0 (get_or taken p 0) x) in
-              rw (
-                rest_is p (ltb-true p n z),
-                swept.same_levels p (omega arith),
-                le-ltb (rest_at tokens taken p) (get_or levels p 0) stays,
-              )
-          go true true z x =
-              rw (rest_is p (ltb-true p n z), swept.same_levels p (omega arith))
-              (taking (ltb (rest_at tokens taken p) (get_or levels p 0)) refl)
 
       -- Whom all places starve.
       pub starves : (t : ℕ) {r : Bool} → r ≡ (bit lack t || bit starved t)

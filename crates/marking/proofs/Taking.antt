@@ -1,17 +1,16 @@
 -- A turn of taking: a member of the word takes its weight at its place, so what is taken and what is still to be taken
 -- there stays the same.
-use mathlib.Core.Bool.{Bool, true, false, cond, not, ◌&&◌, ◌||◌, and-true, and-false}
+use mathlib.Core.Bool.{true, cond, ◌||◌}
 use mathlib.Core.List.{List}
 use mathlib.Core.Path.{◌≡◌, refl, sym, ◌∙◌}
-use Prim.Native.Nat.{ℕ, ◌+◌, ◌^◌, ◌≤◌, ◌<◌}
+use Prim.Native.Nat.{ℕ, ◌+◌, ◌≤◌, ◌<◌}
 use native.Mathlib.Nat.{add-zero}
 use native.Mathlib.Omega.{arith}
-use lib.Dec.{eqb}
 use lib.ListN.{length, get_or, set, length-set}
-use lib.Seq.{get_or-set_same, get_or-set_other}
-use borrow.Author.Tests.{eqb-true, eqb-false, eq-eqb}
 use Rattle.meaning.specs.Bytes.{bit}
 use Rattle.meaning.proofs.Bool.{and_left}
+use Rattle.std.proofs.lemmas.Grind.{common_steps}
+use Rattle.sets.specs.Walk.{Taken}
 use Rattle.sets.proofs.Bits.{bit_zero}
 use Rattle.rows.specs.Rows.{cell}
 use Rattle.marking.specs.Moves.{lacking_at, Took}
@@ -19,7 +18,6 @@ use Rattle.marking.proofs.Walk.{any, gathers, all_gathered}
 
 -- The members of `left` are still to take.
 pub record Taking (word from u : ℕ) (w : List (List ℕ)) (kept taken₀ taken : List ℕ) (left lack : ℕ) : Type 0 where
-  pub word_low : left < 2 ^ 64
   pub within : (p : ℕ) → bit left p ≡ true → bit word p ≡ true
   pub size : length taken ≡ 128
   pub takes : (p : ℕ) → p < 64
@@ -33,10 +31,9 @@ pub record Taking (word from u : ℕ) (w : List (List ℕ)) (kept taken₀ taken
 
 module _ {word from u : ℕ} {w : List (List ℕ)} {kept taken₀ : List ℕ} where
   -- At first all members are still to take.
-  pub begins : word < 2 ^ 64 → length taken₀ ≡ 128 → Taking word from u w kept taken₀ taken₀ word 0
-  begins low size =
+  pub begins : length taken₀ ≡ 128 → Taking word from u w kept taken₀ taken₀ word 0
+  begins size =
       record {
-        word_low = low;
         within = λ p e. e;
         size = size;
         takes = λ p h. refl;
@@ -61,52 +58,19 @@ module _ {word from u : ℕ} {w : List (List ℕ)} {kept taken₀ : List ℕ} wh
 
   -- Member k takes its weight.
   pub one_taken : {taken : List ℕ} {left lack : ℕ} → Taking word from u w kept taken₀ taken left lack → from ≤ 64
-      → (k rest weight lack' : ℕ) → k < 64 → bit left k ≡ true → rest < 2 ^ 64
-      → ((j : ℕ) → bit rest j ≡ (bit left j && not (eqb k j)))
+      → {k rest : ℕ} → Taken left k rest → (weight lack' : ℕ)
       → weight ≡ cell w (from + k) u → weight ≤ 65535
       → ((j : ℕ) → bit lack' j ≡ (bit lack j || bit (lacking_at kept (from + k)) j))
       → Taking word from u w kept taken₀ (set taken (from + k) (get_or taken (from + k) 0 + weight)) rest lack'
-  one_taken {taken} {left} {lack} x half k rest weight lack' low has small less is most joins =
+  one_taken {taken} {left} {lack} x half {k} {rest} turn weight lack' is most joins =
       record {
-        word_low = small;
-        within = λ p e. x.within p (and_left (bit left p) _ (sym (less p) ∙ e));
+        within = λ p e. x.within p (and_left (bit left p) _ (sym (turn.less p) ∙ e));
         size = length-set taken (from + k) _ ∙ x.size;
-        takes = λ p h. takes p h (eqb k p) refl;
-        at_most = λ p h. at_most p h (eqb k p) refl;
-        before = λ q h. other q (λ e. omega arith) ∙ x.before q h;
-        behind = λ q h. other q (λ e. omega arith) ∙ x.behind q h;
+        takes = λ p h. grind (arith, common_steps, x.takes p h, turn.less p, turn.member);
+        at_most = λ p h. grind (arith, common_steps, x.at_most p h, turn.less p, turn.member);
+        before = λ q h. grind (arith, common_steps, x.before q h);
+        behind = λ q h. grind (arith, common_steps, x.behind q h);
         lack_is =
-            λ j. gathers left k rest low has less (λ p. bit (lacking_at kept (from + p)) j) (bit lack j) (joins j)
+            λ j. gathers turn (λ p. bit (lacking_at kept (from + p)) j) (bit lack j) (joins j)
             (x.lack_is j);
       }
-    where
-      taken' : List ℕ
-      taken' = set taken (from + k) (get_or taken (from + k) 0 + weight)
-
-      other : (q : ℕ) → ¬ (q ≡ from + k) → get_or taken' q 0 ≡ get_or taken q 0
-      other q apart = get_or-set_other taken (from + k) q _ 0 apart
-
-      here : get_or taken' (from + k) 0 ≡ get_or taken (from + k) 0 + weight
-      here = get_or-set_same taken (from + k) _ 0 (omega (arith, x.size))
-
-      gone : bit rest k ≡ false
-      gone = less k ∙ rw (eq-eqb k k refl) (and-false (bit left k))
-
-      still : (p : ℕ) → eqb k p ≡ false → bit rest p ≡ bit left p
-      still p e = less p ∙ rw e (and-true (bit left p))
-
-      elsewhere : (p : ℕ) → eqb k p ≡ false → get_or taken' (from + p) 0 ≡ get_or taken (from + p) 0
-      elsewhere p e =
-          let apart : ¬ (k ≡ p) = eqb-false k p e in
-          other (from + p) (λ q. apart (omega arith))
-
-      takes : (p : ℕ) → p < 64 → (b : Bool) → eqb k p ≡ b
-          → get_or taken' (from + p) 0 + cond (bit rest p) (cell w (from + p) u) 0
-          ≡ get_or taken₀ (from + p) 0 + cond (bit word p) (cell w (from + p) u) 0
-      takes p h true e = rw (← eqb-true k p e, gone, add-zero, here, is) (rw has at (x.takes k low))
-      takes p h false e = rw (still p e, elsewhere p e) (x.takes p h)
-
-      at_most : (p : ℕ) → p < 64 → (b : Bool) → eqb k p ≡ b
-          → get_or taken' (from + p) 0 ≤ get_or taken₀ (from + p) 0 + cond (bit rest p) 0 65535
-      at_most p h true e = rw (← eqb-true k p e, gone, here) (omega (arith, rw has at (x.at_most k low), most))
-      at_most p h false e = rw (still p e, elsewhere p e) (x.at_most p h)

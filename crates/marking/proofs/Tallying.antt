@@ -1,20 +1,22 @@
 -- A turn of the tally: one member takes at its places, low and high, and puts what its chain has, so what is moved and
 -- what the others are still to move stays the same.
-use mathlib.Core.Bool.{Bool, true, false, cond, not, ◌&&◌, ◌||◌, or_assoc}
+use mathlib.Core.Bool.{Bool, true, false, cond, ◌&&◌, ◌||◌, or_assoc}
 use mathlib.Core.List.{List}
 use mathlib.Core.Path.{◌≡◌, refl, sym, ap, ap₂, ◌∙◌}
-use Prim.Native.Nat.{ℕ, ◌+◌, ◌-◌, ◌^◌, ◌≤◌, ◌<◌}
+use Prim.Native.Nat.{ℕ, ◌+◌, ◌-◌, ◌≤◌, ◌<◌}
 use native.Mathlib.Nat.{zero-add}
 use native.Mathlib.Omega.{arith}
-use lib.Dec.{eqb, ltb}
+use lib.Dec.{ltb}
 use lib.ListN.{length, get_or}
 use borrow.Author.Tests.{ltb-true, ltb-false}
 use Rattle.meaning.specs.Below.{some}
 use Rattle.meaning.specs.Bytes.{bit}
 use Rattle.meaning.proofs.Bool.{and_left}
 use Rattle.meaning.proofs.Below.{some_same, sum_same, sum_part}
+use Rattle.std.proofs.lemmas.Grind.{common_steps}
+use Rattle.sets.specs.Walk.{Taken}
 use Rattle.sets.proofs.Bits.{bit_zero}
-use Rattle.sets.proofs.Members.{over, over_less}
+use Rattle.sets.proofs.Taking.{over, over_less}
 use Rattle.sets.proofs.Some.{some_split}
 use Rattle.rows.specs.Rows.{takers, functions, cell, taken_at}
 use Rattle.marking.specs.declared.Moved.{Moved}
@@ -79,16 +81,11 @@ both_halves {u} {word} {word'} {rows} {w} {kept} {taken} {taken'} {taken''} {low
 
 -- What a set takes is what its members take.
 taken_over : (s : ℕ) (rows : List ℕ) (w : List (List ℕ)) (p : ℕ) → taken_at s rows w p ≡ over s (takes_by rows w p)
-taken_over s rows w p = sum_same 64 _ _ (λ t h. go (bit s t) (bit (takers rows p) t) (cell w p t))
-  where
-    go : (a b : Bool) (x : ℕ) → cond (a && b) x 0 ≡ cond a (cond b x 0) 0
-    go true b x = refl
-    go false b x = refl
+taken_over s rows w p = sum_same 64 _ _ (λ t h. grind (arith, common_steps))
 
 -- The members of `left` are still to be tallied.
 pub record Tallying (fired : ℕ) (rows : List ℕ) (w : List (List ℕ)) (heads posts kept taken put : List ℕ)
     (done lack left : ℕ) : Type 0 where
-  pub word_low : left < 2 ^ 64
   pub within : (t : ℕ) → bit left t ≡ true → bit fired t ≡ true
   pub taken_size : length taken ≡ 128
   pub put_size : length put ≡ 128
@@ -101,12 +98,11 @@ pub record Tallying (fired : ℕ) (rows : List ℕ) (w : List (List ℕ)) (heads
 
 module _ {fired : ℕ} {rows : List ℕ} {w : List (List ℕ)} {heads posts kept : List ℕ} where
   -- At first all members are still to be tallied.
-  pub begins : {taken put : List ℕ} → fired < 2 ^ 64 → length taken ≡ 128 → length put ≡ 128
+  pub begins : {taken put : List ℕ} → length taken ≡ 128 → length put ≡ 128
       → ((p : ℕ) → p < 128 → get_or taken p 0 ≡ 0)
       → ((p : ℕ) → p < 128 → get_or put p 0 ≡ 0) → Tallying fired rows w heads posts kept taken put 0 0 fired
-  begins low taken_size put_size none_taken none_put =
+  begins taken_size put_size none_taken none_put =
       record {
-        word_low = low;
         within = λ t e. e;
         taken_size = taken_size;
         put_size = put_size;
@@ -137,46 +133,53 @@ module _ {fired : ℕ} {rows : List ℕ} {w : List (List ℕ)} {heads posts kept
         }
 
     -- What is put at a place and what one member left is to put there is no more than what all put.
-    pub put_room : (u p : ℕ) → u < 64 → p < 128 → bit left u ≡ true
+    pub put_room : {u rest : ℕ} → Taken left u rest → (p : ℕ) → p < 128
         → get_or put p 0 + given posts (get_or heads u 0) p ≤ put_at fired heads posts p
-    put_room u p l h e =
+    put_room {u} turn p h =
         omega (
           arith,
           x.puts p h,
-          rw e at (sum_part 64 (λ t. cond (bit left t) (given posts (get_or heads t 0) p) 0) u
-              l),
+          rw turn.member at (sum_part 64 (λ t. cond (bit left t) (given posts (get_or heads t 0) p) 0) u turn.low),
         )
 
     -- Member u is tallied.
-    pub one_tallied : (u rest : ℕ) → u < 64 → bit left u ≡ true → rest < 2 ^ 64
-        → ((j : ℕ) → bit rest j ≡ (bit left j && not (eqb u j)))
-        → {taken' put' : List ℕ} {low high done' lack' : ℕ} → Own u rows w kept taken taken' low high
+    pub one_tallied : {u rest : ℕ} → Taken left u rest → {taken' put' : List ℕ} {low high done' lack' : ℕ}
+        → Own u rows w kept taken taken' low high
         → Gave (get_or heads u 0) posts put put'
         → ((k : ℕ) → bit done' k ≡ (bit done k || bit (functions rows u) k))
         → ((j : ℕ) → bit lack' j ≡ (bit lack j || bit low j || bit high j))
         → Tallying fired rows w heads posts kept taken' put' done' lack' rest
-    one_tallied u rest l has small less {taken'} {put'} {low} {high} {done'} {lack'} own gave gives joins =
+    one_tallied {u} {rest} turn {taken'} {put'} {low} {high} {done'} {lack'} own gave gives joins =
         record {
-          word_low = small;
-          within = λ t e. x.within t (and_left (bit left t) _ (sym (less t) ∙ e));
+          within = λ t e. x.within t (and_left (bit left t) _ (sym (turn.less t) ∙ e));
           taken_size = own.size;
           put_size = gave.size;
           takes =
-              λ p h. omega (arith, own.takes p h, x.takes p h, over_less left u rest less (takes_by rows w p) l has);
+              λ p h. omega (
+                arith,
+                own.takes p h,
+                x.takes p h,
+                over_less left u rest turn.less (takes_by rows w p) turn.low turn.member,
+              );
           taken_low =
-              λ p h. omega (arith, own.at_most p h, x.taken_low p h, over_less left u rest less (λ t. 65535) l has);
+              λ p h. omega (
+                arith,
+                own.at_most p h,
+                x.taken_low p h,
+                over_less left u rest turn.less (λ t. 65535) turn.low turn.member,
+              );
           puts =
               λ p h. omega (
                 arith,
                 gave.puts p h,
                 x.puts p h,
-                over_less left u rest less (λ t. given posts (get_or heads t 0) p) l has,
+                over_less left u rest turn.less (λ t. given posts (get_or heads t 0) p) turn.low turn.member,
               );
           functions_are =
-              λ k. gathers left u rest l has less (λ t. bit (functions rows t) k) (bit done k) (gives k)
+              λ k. gathers turn (λ t. bit (functions rows t) k) (bit done k) (gives k)
               (x.functions_are k);
           lack_is = λ j.
-              gathers left u rest l has less (lacks_by rows kept j) (bit lack j)
+              gathers turn (lacks_by rows kept j) (bit lack j)
               (joins j ∙ or_assoc (bit lack j) (bit low j) (bit high j)
               ∙ ap (λ (b : Bool). bit lack j || b) (own.lack_is j))
               (x.lack_is j);

@@ -12,6 +12,7 @@ use borrow.Author.Tests.{eqb-true, eqb-false, ltb-false}
 use Rattle.meaning.specs.Below.{some}
 use Rattle.meaning.specs.Bytes.{bit}
 use Rattle.meaning.proofs.Bool.{or_false_left, or_false_right}
+use Rattle.std.proofs.lemmas.Grind.{common_steps}
 use Rattle.sets.proofs.Bits.{bit_zero}
 use Rattle.levels.specs.Levels.{SpansAt, OnLevel, Relevelled}
 use Rattle.marking.specs.Sweep.{rest_at, leaves, fallen, Tended}
@@ -81,17 +82,11 @@ module _ {rows : List ℕ} {w s : List (List ℕ)} {tokens put levels₀ : List 
           kept_size = x.kept_size;
           levels_size = x.levels_size;
           spans = x.spans;
-          inside = λ q l. inside q l (eqb q p) refl;
+          inside = λ q l. grind (arith, common_steps, x.inside q, on);
           others = λ q l. x.others q (omega arith);
           marks = x.marks;
           starves = more starved' joins;
         }
-      where
-        inside : (q : ℕ) → q < p + 1 → (b : Bool) → eqb q p ≡ b → OnLevel levels q (get_or tokens q 0)
-        inside q l true e = rw (eqb-true q p e) on
-        inside q l false e =
-            let apart : ¬ (q ≡ p) = eqb-false q p e in
-            x.inside q (omega arith)
 
     -- What is kept of place p is made anew for its new tokens.
     pub one_relevelled : {starved' : ℕ} {kept' levels' : List ℕ}
@@ -103,7 +98,7 @@ module _ {rows : List ℕ} {w s : List (List ℕ)} {tokens put levels₀ : List 
           kept_size = anew.kept_size;
           levels_size = anew.levels_size;
           spans = λ q l. spans q l (eqb q p) refl;
-          inside = λ q l. inside q l (eqb q p) refl;
+          inside = λ q l. grind (arith, common_steps, anew.inside, anew.others q, x.inside q);
           others = λ q l k.
               let o = anew.others q k (λ e. omega arith) in
               let b = x.others q (omega arith) k in
@@ -118,13 +113,6 @@ module _ {rows : List ℕ} {w s : List (List ℕ)} {tokens put levels₀ : List 
             let o = anew.others q l (eqb-false q p e) in
             rw (o.0, o.1, o.2, o.3, o.4) (x.spans q l)
 
-        inside : (q : ℕ) → q < p + 1 → (b : Bool) → eqb q p ≡ b → OnLevel levels' q (get_or tokens q 0)
-        inside q l true e = rw (eqb-true q p e) anew.inside
-        inside q l false e =
-            let apart : ¬ (q ≡ p) = eqb-false q p e in
-            let o = anew.others q (omega arith) apart in
-            rw (o.3, o.4) (x.inside q (omega arith))
-
     -- A place that is not marked did not leave its level: it has its new tokens on it, and starves nobody anew.
     pub unmarked : get_or levels₀ (256 + p) 0 ≡ cond (leaves levels₀ p (rest_at tokens put p) (get_or tokens p 0)) 1 0
         → get_or levels (256 + p) 0 ≡ 0
@@ -132,23 +120,10 @@ module _ {rows : List ℕ} {w s : List (List ℕ)} {tokens put levels₀ : List 
     unmarked mark none = one_stays on (λ t. sym (rw below (or-false (bit starved t))))
       where
         stays : leaves levels₀ p (rest_at tokens put p) (get_or tokens p 0) ≡ false
-        stays = go (leaves levels₀ p (rest_at tokens put p) (get_or tokens p 0)) refl
-          where
-            go : (b : Bool) → leaves levels₀ p (rest_at tokens put p) (get_or tokens p 0) ≡ b → b ≡ false
-            go true e = absurd (omega (arith, rw e at mark, x.marks p h, none))
-            go false e = refl
+        stays = grind (arith, common_steps, mark, x.marks p h, none)
 
         below : ltb (rest_at tokens put p) (get_or levels₀ p 0) ≡ false
         below = or_false_left (ltb (rest_at tokens put p) (get_or levels₀ p 0)) _ stays
 
         on : OnLevel levels p (get_or tokens p 0)
-        on =
-            let o = x.others p (omega arith) h in (
-              omega (arith, o.0, ltb-false (rest_at tokens put p) (get_or levels₀ p 0) below),
-              omega (
-                arith,
-                o.1,
-                ltb-false (get_or levels₀ (128 + p) 0) (get_or tokens p 0)
-                    (or_false_right (ltb (rest_at tokens put p) (get_or levels₀ p 0)) _ stays),
-              ),
-            )
+        on = grind (arith, common_steps, x.others p, stays)

@@ -1,6 +1,6 @@
 -- The marking after a step, place by place, and whom the places starve.
 use Rattle.std.specs.Prelude.{◌&&◌, List, ◌≡◌, ℕ, ◌*◌, ◌≤◌, ◌<◌, ltb, length, get_or}
-use Rattle.meaning.specs.Below.{some, first}
+use Rattle.meaning.specs.Below.{some, IsFirst}
 use Rattle.meaning.specs.Bytes.{bit}
 use Rattle.rows.specs.Rows.{inputs, cell}
 use Rattle.levels.specs.Levels.{lacks, Levels}
@@ -38,7 +38,7 @@ pub record Settles (rows : List ℕ) (w s : List (List ℕ)) (tokens taken put t
   pub tokens_are : (p : ℕ) → p < 128 → get_or tokens' p 0 ≡ new_at tokens taken put p
   pub no_taken : (p : ℕ) → p < 128 → get_or taken' p 0 ≡ 0
   pub no_put : (p : ℕ) → p < 128 → get_or put' p 0 ≡ 0
-  pub full_is : x.full ≡ first 128 (λ p. ltb 65535 (get_or tokens' p 0))
+  pub full_is : IsFirst 128 (λ p. ltb 65535 (get_or tokens' p 0)) x.full
   pub levels_hold : Levels rows w s tokens' kept' levels'
   pub starved_are : (t : ℕ)
       → bit x.starved t

@@ -3,7 +3,7 @@
 #![tactic(auto)]
 
 ghost use Rattle.std.specs.Prelude.{cond, ◌||◌, ◌≡◌, ℕ, ◌≤◌, ◌<◌, ltb, get_or};
-ghost use Rattle.meaning.specs.Below.{first};
+ghost use Rattle.meaning.specs.Below.{IsFirst};
 ghost use Rattle.marking.specs.Moves.{TakeAsks, Took, GiveAsks, Gave, TallyAsks, Tallied};
 ghost use Rattle.marking.specs.Settle.{SettleAsks, Settles};
 ghost use Rattle.marking.specs.Sweep.{LowFour, SweepAsks, Swept, TendAsks, Tended, ClearAsks, Cleared};
@@ -25,27 +25,25 @@ fn take(
     requires { TakeAsks word from u taken.old w.now }
     ensures { Took word from u w.now kept.now taken.old taken.new result }
 {
-    let mut left = word;
     let mut lack = 0u64;
-    while left != 0 {
-        let p = from + sets::lowest(left);
-        taken[p] = taken[p] + numbers::wide(w[p][u]);
+    for k in sets::members(word) {
+        let p = from + k;
+        taken[p] += numbers::wide(w[p][u]);
         lack = sets::union(lack, kept[LACKS + p]);
-        left = sets::rest(left);
     }
     lack
 }
 
-// Adds at each place what the chain of post arcs from `first` on puts there.
+// Adds at each place what the chain of post arcs from `first` on puts there. A link is one more than the number of its
+// arc, or 0 at the end.
 fn give(first: u16, put: &mut [u32; 128], posts: &[u16])
     requires { GiveAsks first put.old posts.now }
     ensures { Gave first posts.now put.old put.new }
 {
     let mut link = numbers::count(first);
-    while link != 0 {
-        let k = link - 1;
+    while let Some(k) = link.checked_sub(1) {
         let p = numbers::count(posts[3 * k + PLACE]);
-        put[p] = put[p] + numbers::wide(posts[3 * k + WEIGHT]);
+        put[p] += numbers::wide(posts[3 * k + WEIGHT]);
         link = numbers::count(posts[3 * k + NEXT]);
     }
 }
@@ -76,14 +74,11 @@ pub fn tally(
 {
     let mut functions = 0u64;
     let mut lack = 0u64;
-    let mut left = fired;
-    while left != 0 {
-        let u = sets::lowest(left);
+    for u in sets::members(fired) {
         functions = sets::union(functions, rows[8 * u + FUNCTIONS]);
         lack = sets::union(lack, take(arcs[5 * u + TAKES], 0, u, taken, w, kept));
         lack = sets::union(lack, take(arcs[5 * u + TAKES + 1], 64, u, taken, w, kept));
         give(heads[u], put, posts);
-        left = sets::rest(left);
     }
     Moved { functions, lack }
 }
@@ -108,6 +103,7 @@ fn left_it(rest: u32, new: u32, from: u32, upto: u32) -> u32
 }
 
 // All bits of the one and of the other: at least each of them.
+#[tactic(auto, using(std::proofs::lemmas::Nat::le_or_l, std::proofs::lemmas::Nat::le_or_r))]
 fn together(x: u32, y: u32) -> u32
     ensures { (x ≤ result) × (y ≤ result) }
 {
@@ -128,38 +124,29 @@ fn sweep(
         tokens.new levels.new result }
 {
     let mut all: u32 = 0;
-    let mut p = 0;
-    while p < n {
+    for p in 0..n {
         let rest = tokens[p] - taken[p];
         let new = rest + put[p];
         levels[LEFT + p] = left_it(rest, new, levels[p], levels[UPTO + p]);
         all = together(all, new);
         tokens[p] = new;
-        p += 1;
     }
     all
 }
 
-// The first of the first n places that has more than 65,535 tokens, or 128.
-fn first_full(tokens: &[u32; 128], n: usize) -> usize
+// The first of the first n places that has more than 65,535 tokens, if there is one.
+fn first_full(tokens: &[u32; 128], n: usize) -> Option<usize>
     requires { (n ≤ 128) × ((p : ℕ) → n ≤ p → p < 128 → get_or tokens.now p 0 ≤ 65535) }
-    ensures { result ≡ first 128 (λ p. ltb 65535 (get_or tokens.now p 0)) }
+    ensures { IsFirst 128 (λ p. ltb 65535 (get_or tokens.now p 0)) result }
 {
-    let mut p = 0;
-    while p < n {
-        if 65535 < tokens[p] {
-            return p;
-        }
-        p += 1;
-    }
-    128
+    tokens[..n].iter().position(|x| 65535 < *x)
 }
 
 // Is the number outside of a level?
 fn outside(x: u32, from: u32, upto: u32) -> bool
     ensures { result ≡ (ltb x from || ltb upto x) }
 {
-    if x < from { true } else { upto < x }
+    x < from || upto < x
 }
 
 // The places that left their level: whom the rest of each starves where it came below the level, and what is kept of it
@@ -179,8 +166,7 @@ fn tend(
         kept.old levels.old kept.new levels.new result }
 {
     let mut starved = 0u64;
-    let mut p = 0;
-    while p < n {
+    for p in 0..n {
         if levels[LEFT + p] != 0 {
             let new = tokens[p];
             let rest = new - put[p];
@@ -195,7 +181,6 @@ fn tend(
                 levels::relevel(p, new, kept, levels, rows, w, s);
             }
         }
-        p += 1;
     }
     starved
 }
@@ -205,23 +190,22 @@ fn clear(taken: &mut [u32; 128], put: &mut [u32; 128], n: usize)
     requires { ClearAsks n taken.old put.old }
     ensures { Cleared n taken.old put.old taken.new put.new }
 {
-    let mut p = 0;
-    while p < n {
+    // One loop over both: two calls of fill take more instructions on all but the largest nets.
+    for p in 0..n {
         taken[p] = 0;
         put[p] = 0;
-        p += 1;
     }
 }
 
-// The lowest full place, 128 if there is none, and whom the places starve.
+// The lowest full place, if there is one, and whom the places starve.
 #[derive(Clone, Copy)]
 pub struct Settled {
-    pub full: usize,
+    pub full: Option<usize>,
     pub starved: u64,
 }
 
 // The marking after the step: each of the first n places loses what is taken and gains what is put. Answers the
-// lowest full place (128 if none) and whom the places starve; `lack` has who lacked tokens at the places from which
+// lowest full place, if there is one, and whom the places starve; `lack` has who lacked tokens at the places from which
 // something is taken. What is kept of each place then holds for its new tokens; nothing is taken or put any more.
 pub fn settle(
     tokens: &mut [u32; 128],
@@ -241,10 +225,11 @@ pub fn settle(
         put.old tokens.new kept.new levels.new taken.new
         put.new result }
 {
-    let mut full = 128;
-    if 65535 < sweep(tokens, taken, put, levels, n) {
-        full = first_full(tokens, n);
-    }
+    let full = if 65535 < sweep(tokens, taken, put, levels, n) {
+        first_full(tokens, n)
+    } else {
+        None
+    };
     let starved = sets::union(lack, tend(tokens, put, kept, levels, rows, w, s, n));
     clear(taken, put, n);
     Settled { full, starved }

@@ -1,12 +1,13 @@
 -- What the rows of a table say of who is named, who is declared and who has arcs is what its records say.
-use mathlib.Core.Bool.{Bool, true, false, not, ◌&&◌, ◌||◌, cond, or-false}
+use mathlib.Core.Bool.{Bool, true, false, not, ◌&&◌, ◌||◌, or-false}
 use mathlib.Core.List.{List}
 use mathlib.Core.Logic.{⊎_elim}
 use mathlib.Core.Path.{◌≡◌, refl, sym, ap, ◌∙◌}
 use Prim.Native.Nat.{ℕ, ◌-◌, ◌≤◌, ◌<◌}
 use native.Mathlib.Omega.{arith}
 use lib.Dec.{eqb, ltb}
-use borrow.Author.Tests.{eqb-true, eq-eqb, ltb-true, ltb-false}
+use borrow.Author.Tests.{eqb-true, eq-eqb}
+use Rattle.std.proofs.lemmas.Grind.{common_steps}
 use Rattle.meaning.specs.Below.{some}
 use Rattle.meaning.specs.Bytes.{bit}
 use Rattle.meaning.specs.Table.{Table, is, place, transition}
@@ -17,7 +18,7 @@ use Rattle.meaning.proofs.Bool.{same_test}
 use Rattle.meaning.proofs.Reflect.{not_true_false}
 use Rattle.meaning.proofs.Below.{some_intro, some_elim}
 use Rattle.meaning.proofs.Shows.{Shows, each_kind}
-use Rattle.meaning.proofs.Same.{shown_kind, shown_arc, shown_priority, of_kind}
+use Rattle.meaning.proofs.Same.{shown_kind, shown_arc, of_kind}
 use Rattle.rows.proofs.Arcs.{joins_test}
 use Rattle.rows.proofs.Empty.{back}
 use Rattle.rows.proofs.Shown.{two_low, transition_low}
@@ -54,24 +55,14 @@ module _ {tb : Table} {n : ℕ} {rows : List ℕ} {known : Declared} (whole : Wh
   pub unknown_same : (k : ℕ) → k < tb.records → unknown_at tb known k ≡ unknown tb k
   unfolding unknown_by unknown names_place names_transition names_second
   unknown_same k h =
-      each_kind
-      (λ kind. tb.kind k ≡ kind
-      → (((eqb kind 3 || eqb kind 6) && not (has known (tb.one k)))
-      || ((eqb kind 4 || eqb kind 5 || eqb kind 7) && not (bit known.transitions (tb.one k)))
-      || ((eqb kind 3 || eqb kind 5) && not (bit known.transitions (tb.two k))))
-      ≡ (((eqb kind 3 || eqb kind 6) && not (place tb (tb.one k)))
-      || ((eqb kind 4 || eqb kind 5 || eqb kind 7) && not (transition tb (tb.one k)))
-      || ((eqb kind 3 || eqb kind 5) && not (transition tb (tb.two k)))))
-      (λ e. refl)
-      (λ e. refl)
-      (λ e. rw (place_is (tb.one k) (one_low k h), transition_is (tb.two k) (two_low (whole.shown k h))))
-      (λ e. rw (transition_is (tb.one k) (transition_low (of_kind tb k 4 (whole.shown k h) e) refl)))
-      (λ e.
-      let s = shown_priority (of_kind tb k 5 (whole.shown k h) e) in
-      rw (transition_is (tb.one k) (omega (arith, s.0)), transition_is (tb.two k) (omega (arith, s.1))))
-      (λ e. rw (place_is (tb.one k) (one_low k h)))
-      (λ e. rw (transition_is (tb.one k) (transition_low (of_kind tb k 7 (whole.shown k h) e) refl)))
-      (tb.kind k) (shown_kind (whole.shown k h)).0 (shown_kind (whole.shown k h)).1 refl
+      let shown = whole.shown k h in
+      let first : has known (tb.one k) ≡ place tb (tb.one k) = place_is (tb.one k) (one_low k h) in
+      let second : bit known.transitions (tb.two k) ≡ transition tb (tb.two k) =
+      transition_is (tb.two k) (two_low shown) in
+      let four : tb.kind k ≡ 4 → tb.one k < 64 = λ e. transition_low (of_kind tb k 4 shown e) refl in
+      let five : tb.kind k ≡ 5 → tb.one k < 64 = λ e. transition_low (of_kind tb k 5 shown e) refl in
+      let seven : tb.kind k ≡ 7 → tb.one k < 64 = λ e. transition_low (of_kind tb k 7 shown e) refl in
+      grind (arith, common_steps, first, second, four, five, seven, transition_is (tb.one k))
 
   -- A record that is kept in a row is a bit there.
   in_row : (c k : ℕ) → c < 7 → k < tb.records → kept_in tb c k ≡ true → bit (row rows c (tb.one k)) (tb.two k) ≡ true
@@ -89,14 +80,9 @@ module _ {tb : Table} {n : ℕ} {rows : List ℕ} {known : Declared} (whole : Wh
   -- An arc is a bit among the arcs of its place.
   arc_in : (k : ℕ) → k < tb.records → tb.kind k ≡ 3 → arc_bit rows (tb.one k) (tb.two k) ≡ true
   unfolding kept_in
-  arc_in k h kind = go (ltb (tb.sort k) 3) refl
-    where
-      go : (b : Bool) → ltb (tb.sort k) 3 ≡ b → arc_bit rows (tb.one k) (tb.two k) ≡ true
-      go true e = or_true_left (bit (givers rows (tb.one k)) (tb.two k)) (in_row 0 k (omega arith) h (rw (kind, e)))
-      go false e =
-          let last : tb.sort k ≡ 3 =
-          omega (arith, ltb-false (tb.sort k) 3 e, (shown_arc (of_kind tb k 3 (whole.shown k h) kind)).2) in
-          or_true_right (bit (inputs rows (tb.one k)) (tb.two k)) (in_row 2 k (omega arith) h (rw (kind, last)))
+  arc_in k h kind =
+      let arc = shown_arc (of_kind tb k 3 (whole.shown k h) kind) in
+      grind (arith, common_steps, or_true_left, or_true_right, in_row, arc)
 
   -- What is named in the rows and is not declared is unknown there.
   lost : (k : ℕ) → k < tb.records → (arc_bit rows (tb.one k) (tb.two k)
@@ -122,12 +108,8 @@ module _ {tb : Table} {n : ℕ} {rows : List ℕ} {known : Declared} (whole : Wh
   -- A transition that names something of its own, or that another stands above.
   named_below : (u t : ℕ) → u < 64 → u < n → named_by rows t u ≡ true → transition_named rows n t ≡ true
   named_below u t low inside e =
-      or_true_right (some n (λ p. arc_bit rows p t)) (some_intro (transitions_below n) (named_by rows t) u
-      (under (ltb n 64) refl) e)
-    where
-      under : (b : Bool) → ltb n 64 ≡ b → u < cond b n 64
-      under true x = inside
-      under false x = low
+      let under : u < transitions_below n = grind (arith, common_steps) in
+      or_true_right (some n (λ p. arc_bit rows p t)) (some_intro (transitions_below n) (named_by rows t) u under e)
 
   own_name : (k y : ℕ) → k < tb.records → tb.one k < 64 → y < 64
       → (bit (below rows (tb.one k)) y || bit (looks rows (tb.one k)) y || bit (functions rows (tb.one k)) y) ≡ true
@@ -263,17 +245,8 @@ module _ {tb : Table} {n : ℕ} {rows : List ℕ} {known : Declared} (whole : Wh
   -- Candidate j is isolated exactly if it is so by the rows.
   pub isolated_same : (j : ℕ) → j < 192 → isolated_in rows known j ≡ isolated tb j
   unfolding isolated_in isolated
-  isolated_same j h = go (ltb j 128) refl
-    where
-      go : (b : Bool) → ltb j 128 ≡ b
-          → cond b (has known j && not (some 64 (arc_bit rows j)))
-          (bit known.transitions (j - 128) && not (some 128 (λ p. arc_bit rows p (j - 128))))
-          ≡ cond b (place tb j && not (arc_at_place tb j)) (transition tb (j - 128)
-          && not (arc_at_transition tb (j - 128)))
-      go true e = rw (place_is j (ltb-true j 128 e), at_place j (ltb-true j 128 e))
-      go false e =
-          let low : j - 128 < 64 = omega (arith, h, ltb-false j 128 e) in
-          rw (transition_is (j - 128) low, at_transition (j - 128) low)
+  isolated_same j h =
+      grind (arith, common_steps, place_is, at_place, transition_is (j - 128), at_transition (j - 128))
 
   -- From place n on there is neither an arc nor a place.
   pub quiet : QuietFrom n rows known

@@ -2,18 +2,16 @@
 -- named so far.
 use mathlib.Core.Bool.{Bool, true, false, ◌&&◌, ◌||◌, not, or_assoc}
 use mathlib.Core.List.{List}
-use mathlib.Core.Path.{◌≡◌, refl, sym, ap, ◌∙◌}
-use Prim.Native.Nat.{ℕ, ◌+◌, ◌-◌, ◌^◌, ◌≤◌, ◌<◌}
+use mathlib.Core.Path.{◌≡◌, ◌∙◌}
+use Prim.Native.Nat.{ℕ, ◌+◌, ◌-◌, ◌≤◌, ◌<◌}
 use native.Mathlib.Omega.{arith}
 use native.Mathlib.Numerals.{add-one}
-use lib.Dec.{eqb, ltb}
-use borrow.Author.Tests.{lt-ltb, le-ltb, ltb-true, ltb-false}
+use lib.Dec.{eqb}
+use Rattle.std.proofs.lemmas.Grind.{common_steps}
 use Rattle.meaning.specs.Below.{some, first}
 use Rattle.meaning.specs.Bytes.{bit}
-use Rattle.meaning.proofs.Bool.{not_both, same_test}
-use Rattle.meaning.proofs.Below.{some_same, some_intro, some_elim, first_is, first_none, first_before}
-use Rattle.sets.proofs.Bits.{bit_zero}
-use Rattle.sets.proofs.Members.{lowest_in}
+use Rattle.meaning.proofs.Below.{some_same, first_is, first_none, first_passes, first_before}
+use Rattle.sets.proofs.Some.{some_short}
 use Rattle.rows.specs.declared.Declared.{Declared}
 use Rattle.rows.specs.Rows.{inputs, givers, actions, below, has}
 use Rattle.named.specs.Named.{arc_bit, place_named, own_named, named_by, QuietFrom, isolated_in}
@@ -51,70 +49,39 @@ more_named rows u t a under own before own_is under_is joins gains =
 pub isolated_place : (rows : List ℕ) (k : Declared) (p : ℕ) → p < 128
     → (has k p && not (some 64 (arc_bit rows p))) ≡ isolated_in rows k p
 unfolding isolated_in
-isolated_place rows k p h = rw (lt-ltb p 128 h)
+isolated_place rows k p h = grind (arith, common_steps)
 
 -- No place before p is isolated, and from p on there is none; the set `alone` has the declared transitions without an
 -- arc.
 module _ (rows : List ℕ) (k : Declared) {n : ℕ} (p arced : ℕ) (quiet : QuietFrom n rows k) (past : n ≤ p)
     (before : (j : ℕ) → j < p → isolated_in rows k j ≡ false)
     (arced_is : (t : ℕ) → bit arced t ≡ some p (λ q. arc_bit rows q t))
-    (alone : ℕ) (low : alone < 2 ^ 64) (alone_is : (t : ℕ)
+    (alone : ℕ) (alone_is : (t : ℕ)
     → bit alone t ≡ (bit k.transitions t && not (bit arced t))) where
   no_place : (j : ℕ) → j < 128 → isolated_in rows k j ≡ false
-  no_place j h = go (ltb j p) refl
-    where
-      go : (b : Bool) → ltb j p ≡ b → isolated_in rows k j ≡ false
-      go true e = before j (ltb-true j p e)
-      go false e = sym (isolated_place rows k j h) ∙ rw (quiet.no_place j (omega (arith, ltb-false j p e, past)) h)
+  no_place j h = grind (arith, common_steps, before j, isolated_place rows k j, quiet.no_place j)
 
   -- The arcs of the first p places are those of all.
   all_arcs : p ≤ 128 → (t : ℕ) → t < 64 → bit arced t ≡ some 128 (λ q. arc_bit rows q t)
   all_arcs h t l =
-      arced_is t
-      ∙ same_test (some p (λ q. arc_bit rows q t)) (some 128 (λ q. arc_bit rows q t))
-      (λ e. let w = some_elim p (λ q. arc_bit rows q t) e in
-      some_intro 128 (λ q. arc_bit rows q t) w.0 (omega (arith, w.1, h)) w.2)
-      (λ e.
-      let w = some_elim 128 (λ q. arc_bit rows q t) e in
-      let inside : w.0 < p = under w.0 w.1 w.2 in
-      some_intro p (λ q. arc_bit rows q t) w.0 inside w.2)
-    where
-      under : (q : ℕ) → q < 128 → arc_bit rows q t ≡ true → q < p
-      under q g e = go (ltb q p) refl
-        where
-          go : (b : Bool) → ltb q p ≡ b → q < p
-          go true x = ltb-true q p x
-          go false x = not_both e (quiet.no_arc q t (omega (arith, ltb-false q p x, past)) g l)
+      arced_is t ∙ some_short p 128 (λ q. arc_bit rows q t) h (λ q a g. quiet.no_arc q t (omega (arith, past, a)) g l)
 
   -- Candidate 128 + t is a transition.
   isolated_is : p ≤ 128 → (t : ℕ) → t < 64 → isolated_in rows k (128 + t) ≡ bit alone t
   unfolding isolated_in
-  isolated_is h t l =
-      let back : 128 + t - 128 ≡ t = omega arith in
-      rw (le-ltb (128 + t) 128 (omega arith), back, ← all_arcs h t l) (sym (alone_is t))
+  isolated_is h t l = grind (arith, common_steps, all_arcs, alone_is)
 
-  pub none_isolated : p ≤ 128 → alone ≡ 0 → 192 ≡ first 192 (isolated_in rows k)
-  none_isolated h e = sym (first_none 192 (isolated_in rows k) (λ j l. go j l (ltb j 128) refl))
-    where
-      go : (j : ℕ) → j < 192 → (b : Bool) → ltb j 128 ≡ b → isolated_in rows k j ≡ false
-      go j l true x = no_place j (ltb-true j 128 x)
-      go j l false x =
-          let split : j ≡ 128 + (j - 128) = omega (arith, ltb-false j 128 x) in
-          ap (isolated_in rows k) split ∙ isolated_is h (j - 128) (omega (arith, l, ltb-false j 128 x))
-          ∙ rw e (bit_zero (j - 128))
+  pub none_isolated : p ≤ 128 → first 64 (bit alone) ≡ 64 → first 192 (isolated_in rows k) ≡ 192
+  none_isolated h e =
+      first_none 192 (isolated_in rows k)
+      (λ j l. grind (arith, no_place, isolated_is h (j - 128), first_before 64 (bit alone) (j - 128)))
 
-  pub isolated_transition : p ≤ 128 → ¬ (alone ≡ 0) → (t : ℕ) → t ≡ first 64 (bit alone)
-      → 128 + t ≡ first 192 (isolated_in rows k)
-  isolated_transition h e t is =
-      let found = lowest_in alone t low e is in
-      sym (first_is 192 (isolated_in rows k) (128 + t) (omega (arith, found.0))
-      (isolated_is h t found.0 ∙ found.1) (λ j l. go j l (ltb j 128) refl))
-    where
-      go : (j : ℕ) → j < 128 + t → (b : Bool) → ltb j 128 ≡ b → isolated_in rows k j ≡ false
-      go j l true x = no_place j (ltb-true j 128 x)
-      go j l false x =
-          let split : j ≡ 128 + (j - 128) = omega (arith, ltb-false j 128 x) in
-          let found = lowest_in alone t low e is in
-          ap (isolated_in rows k) split
-          ∙ isolated_is h (j - 128) (omega (arith, l, found.0, ltb-false j 128 x))
-          ∙ first_before 64 (bit alone) (j - 128) (omega (arith, l, is, ltb-false j 128 x))
+  pub isolated_transition : {t : ℕ} → p ≤ 128 → (t < 64) × (first 64 (bit alone) ≡ t)
+      → (128 + t < 192) × (first 192 (isolated_in rows k) ≡ 128 + t)
+  isolated_transition {t} h found =
+      let under : 128 + t < 192 = omega (arith, found.0) in
+      let here : bit alone t ≡ true = rw (← found.1) (first_passes 64 (bit alone) (rw found.1 found.0)) in (
+        under,
+        first_is 192 (isolated_in rows k) (128 + t) under (isolated_is h t found.0 ∙ here)
+            (λ j l. grind (arith, no_place, isolated_is h (j - 128), first_before 64 (bit alone) (j - 128))),
+      )

@@ -1,11 +1,11 @@
 -- Who is named, and who is isolated, by the rows and what is declared.
-use Rattle.std.specs.Prelude.{Bool, false, cond, not, ◌&&◌, ◌||◌, List, ◌≡◌, ℕ, ◌-◌, ◌≤◌, ◌<◌, eqb, ltb}
+use Rattle.std.specs.Prelude.{Bool, true, false, cond, not, ◌&&◌, ◌||◌, List, ◌≡◌, ℕ, ◌-◌, ◌≤◌, ◌<◌, eqb, ltb}
+use Rattle.std.specs.Prelude.{Option, MatchOption}
 use Rattle.meaning.specs.Below.{some}
 use Rattle.meaning.specs.Bytes.{bit}
 use Rattle.meaning.specs.Table.{Table}
 use Rattle.rows.specs.declared.Declared.{Declared}
 use Rattle.rows.specs.Rows.{inputs, givers, actions, looks, functions, below, has, transitions_below}
-use Rattle.named.specs.declared.Walked.{Walked}
 
 -- There is an arc between place p and transition t.
 abbrev pub arc_bit : List ℕ → ℕ → ℕ → Bool
@@ -19,10 +19,11 @@ place_named rows p = some 64 (λ y. arc_bit rows p y || bit (actions rows p) y)
 abbrev pub lost_place : List ℕ → Declared → ℕ → Bool
 lost_place rows k p = place_named rows p && not (has k p)
 
--- A walk over the first n places: one is lost, or none is and the set has the transitions of their arcs.
-pub record Places (rows : List ℕ) (k : Declared) (n : ℕ) (r : Walked) : Type 0 where
-  pub unknown_is : r.unknown ≡ some n (lost_place rows k)
-  pub arced_is : r.unknown ≡ false → (t : ℕ) → bit r.arced t ≡ some n (λ p. arc_bit rows p t)
+-- A walk over the first n places: none is lost, and the set has the transitions of their arcs; or one is lost.
+abbrev pub Places : List ℕ → Declared → ℕ → Option ℕ → Type 0
+Places rows k n r =
+    MatchOption r (some n (lost_place rows k) ≡ true)
+    (λ arced. (some n (lost_place rows k) ≡ false) × ((t : ℕ) → bit arced t ≡ some n (λ p. arc_bit rows p t)))
 
 -- Transition t has conditions, functions or transitions below it.
 abbrev pub own_named : List ℕ → ℕ → Bool

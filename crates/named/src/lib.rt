@@ -3,37 +3,33 @@
 #![tactic(auto)]
 
 ghost use Rattle.std.specs.Prelude.{not, ◌&&◌, ◌||◌, ◌≡◌, ℕ, ◌*◌, ◌≤◌, ◌<◌, eqb, length};
-ghost use Rattle.meaning.specs.Below.{some, first};
+ghost use Rattle.meaning.specs.Below.{some, IsFirst};
 ghost use Rattle.meaning.specs.Bytes.{bit};
 ghost use Rattle.meaning.specs.Table.{table};
 ghost use Rattle.rows.specs.Rows.{has};
 ghost use Rattle.named.specs.Named.{Places, unknown_in, unknown_by, unknown_at, QuietFrom, isolated_in};
 
-use records::Rec;
+use records::{Kind, Rec};
 use rows::{ACTIONS, BELOW, Declared, FUNCTIONS, INPUTS, LOOKS, POSTS};
 
 // Is place p named by something, and not declared?
+#[tactic(auto, using(rows::proofs::Empty::has_none, rows::proofs::Empty::has_some))]
 fn lost(by: u64, k: Declared, p: usize) -> bool
     ensures { result ≡ (some 64 (bit by) && not (has k p)) }
 {
-    if by == 0 {
-        return false;
-    }
-    !rows::has_place(k, p)
+    by != 0 && !rows::has_place(k, p)
 }
 
 // Is place p declared, without an arc?
+#[tactic(auto, using(rows::proofs::Empty::has_none, rows::proofs::Empty::has_some))]
 fn bare(arcs: u64, k: Declared, p: usize) -> bool
     ensures { result ≡ (has k p && not (some 64 (bit arcs))) }
 {
-    if arcs == 0 {
-        rows::has_place(k, p)
-    } else {
-        false
-    }
+    arcs == 0 && rows::has_place(k, p)
 }
 
 // The named, with t if it names something of its own.
+#[tactic(auto, using(rows::proofs::Empty::has_none, rows::proofs::Empty::has_some))]
 fn with_namer(named: u64, own: u64, t: usize) -> u64
     requires { t < 64 }
     ensures { (j : ℕ) → bit result j ≡ (bit named j || (eqb t j && some 64 (bit own))) }
@@ -44,124 +40,86 @@ fn with_namer(named: u64, own: u64, t: usize) -> u64
     sets::union(named, sets::single(t))
 }
 
-// What a walk over the places shows: whether one that is named is not declared, and the transitions of all arcs.
-#[derive(Clone, Copy)]
-struct Walked {
-    unknown: bool,
-    arced: u64,
-}
-
-// The same, of the first n places.
-fn walk(rows: &[u64], k: Declared, n: usize) -> Walked
+// The transitions of all arcs of the first n places, or nothing if one of these places is named and not declared.
+fn walk(rows: &[u64], k: Declared, n: usize) -> Option<u64>
     requires { 8 * n ≤ length rows.now }
     ensures { Places rows.now k n result }
 {
     let mut arced: u64 = 0;
-    let mut p = 0;
-    while p < n {
+    for p in 0..n {
         let arcs = sets::union(rows[8 * p + INPUTS], rows[8 * p + POSTS]);
         if lost(sets::union(arcs, rows[8 * p + ACTIONS]), k, p) {
-            return Walked {
-                unknown: true,
-                arced: 0,
-            };
+            return None;
         }
         arced = sets::union(arced, arcs);
-        p += 1;
     }
-    Walked {
-        unknown: false,
-        arced,
-    }
+    Some(arced)
 }
 
 // Is a place or a transition named that is not declared? No number is at n or past it.
+#[tactic(auto, unfolding(crate::specs::Named::unknown_in))]
 pub fn any_unknown(rows: &[u64], k: Declared, n: usize) -> bool
     requires { 8 * n ≤ length rows.now }
     ensures { result ≡ unknown_in rows.now k n }
 {
-    let places = walk(rows, k, n);
-    if places.unknown {
+    let Some(mut named) = walk(rows, k, n) else {
         return true;
-    }
-    let mut named = places.arced;
-    let m = rows::transitions(n);
-    let mut t = 0;
-    while t < m {
+    };
+    for t in 0..rows::transitions(n) {
         let below = rows[8 * t + BELOW];
         let own = sets::union(
             sets::union(below, rows[8 * t + LOOKS]),
             rows[8 * t + FUNCTIONS],
         );
         named = sets::union(with_namer(named, own, t), below);
-        t += 1;
     }
     sets::less(named, k.transitions) != 0
 }
 
 // Does the record name a place or a transition that is not declared?
+#[tactic(auto, unfolding(crate::specs::Named::unknown_by))]
 fn names_unknown(x: Rec, k: Declared) -> bool
     ensures { result ≡ unknown_by k x.kind x.one x.two }
 {
-    let kind = x.kind;
-    if kind < 3 {
-        return false;
+    let one = records::wide(x.one);
+    let two = records::wide(x.two);
+    match Kind::try_from(x.kind) {
+        Ok(Kind::Arc) => !rows::has_place(k, one) || !sets::has(k.transitions, two),
+        Ok(Kind::Condition | Kind::Function) => !sets::has(k.transitions, one),
+        Ok(Kind::Priority) => !sets::has(k.transitions, one) || !sets::has(k.transitions, two),
+        Ok(Kind::Action) => !rows::has_place(k, one),
+        Ok(Kind::Place | Kind::Transition) => false,
+        Err(_) => false,
     }
-    if kind == 3 {
-        if !rows::has_place(k, records::wide(x.one)) {
-            return true;
-        }
-        return !sets::has(k.transitions, records::wide(x.two));
-    }
-    if kind == 6 {
-        return !rows::has_place(k, records::wide(x.one));
-    }
-    if 7 < kind {
-        return false;
-    }
-    if !sets::has(k.transitions, records::wide(x.one)) {
-        return true;
-    }
-    if kind == 5 {
-        return !sets::has(k.transitions, records::wide(x.two));
-    }
-    false
 }
 
-// The first record that names one, or the number of records.
-pub fn first_unknown(t: &[u8], k: Declared) -> usize
-    ensures { result ≡ first (table t.now).records (unknown_at (table t.now) k) }
+// The first record that names one, if there is one.
+#[tactic(auto, using(meaning::proofs::Below::first_none), unfolding(meaning::specs::Table::table))]
+pub fn first_unknown(t: &[u8], k: Declared) -> Option<usize>
+    ensures { IsFirst (table t.now).records (unknown_at (table t.now) k) result }
 {
-    let count = t.len() / 8;
-    let mut r = 0;
-    while r < count {
+    for r in 0..t.len() / 8 {
         if names_unknown(records::read(t, r), k) {
-            return r;
+            return Some(r);
         }
-        r += 1;
     }
-    count
+    None
 }
 
-// The first declared place with no arc, else 128 and the first declared transition with no arc, else 192. From n on
-// there is neither an arc nor a place.
-pub fn first_isolated(rows: &[u64], k: Declared, n: usize) -> usize
+// The first declared place with no arc, else 128 and the first declared transition with no arc, if there is one. From n
+// on there is neither an arc nor a place.
+pub fn first_isolated(rows: &[u64], k: Declared, n: usize) -> Option<usize>
     requires { QuietFrom n rows.now k × (8 * n ≤ length rows.now) }
-    ensures { result ≡ first 192 (isolated_in rows.now k) }
+    ensures { IsFirst 192 (isolated_in rows.now k) result }
 {
     let mut arced: u64 = 0;
-    let mut p = 0;
-    while p < n {
+    for p in 0..n {
         let arcs = sets::union(rows[8 * p + INPUTS], rows[8 * p + POSTS]);
         if bare(arcs, k, p) {
-            return p;
+            return Some(p);
         }
         arced = sets::union(arced, arcs);
-        p += 1;
     }
-    let alone = sets::less(k.transitions, arced);
-    if alone == 0 {
-        return 192;
-    }
-    128 + sets::lowest(alone)
+    let alone = sets::lowest(sets::less(k.transitions, arced))?;
+    Some(128 + alone)
 }

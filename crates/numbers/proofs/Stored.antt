@@ -1,44 +1,11 @@
--- A number stored byte by byte: what is stored and what is still to come make up the bytes of the number.
-use mathlib.Core.List.{List, ◌++◌, append-nil, append_assoc}
+-- Numbers stored one behind the other.
+use mathlib.Core.List.{List, ◌++◌, append_assoc}
 use mathlib.Core.Path.{◌≡◌, refl, sym, ap, ◌∙◌}
-use Prim.Native.Nat.{ℕ, suc, ◌+◌, ◌-◌, ◌/◌, ◌%◌, ◌≤◌, ◌<◌}
+use Prim.Native.Nat.{ℕ, ◌+◌, ◌-◌, ◌≤◌}
 use native.Mathlib.Omega.{arith}
-use lib.ListN.{length, take, drop, set, take-append-drop, length-append}
-use lib.Seq.{take-suc-set, drop-set-lt, append_snoc, length-take-le, take_at, drop_at, drop-drop}
+use lib.ListN.{length, take, drop, length-append}
+use lib.Seq.{length-take-le, take_at, drop_at, drop-drop}
 use Rattle.meaning.specs.Bytes.{bytes}
-
--- The list once the rest, the last bytes of the eight from a place on, is stored too.
-abbrev pub to_be : List ℕ → ℕ → ℕ → ℕ → List ℕ
-to_be out at i rest = take (at + i) out ++ bytes (8 - i) rest ++ drop (at + 8) out
-
--- One more byte is stored: the list to be stays the same.
-pub one_stored : (out : List ℕ) (at i rest : ℕ) → i < 8 → at + 8 ≤ length out
-    → to_be (set out (at + i) (rest % 256)) at (i + 1) (rest / 256) ≡ to_be out at i rest
-unfolding bytes
-one_stored out at i rest h l =
-    let place : at + (i + 1) ≡ suc (at + i) = omega arith in
-    let left : 8 - i ≡ suc (8 - (i + 1)) = omega arith in
-    let inside : at + i < length out = omega arith in
-    rw (
-      place,
-      left,
-      take-suc-set out (at + i) (rest % 256) inside,
-      drop-set-lt (at + 8) out (at + i) (rest % 256) (omega arith),
-    )
-    (ap (λ (r : List ℕ). r ++ drop (at + 8) out) (append_snoc (take (at + i) out) (rest % 256)
-    (bytes (8 - (i + 1)) (rest / 256))))
-
--- With all eight stored the list is what it was to be at first.
-pub all_stored : (l out : List ℕ) (at i rest x : ℕ) → i ≡ 8 → to_be out at i rest ≡ to_be l at 0 x
-    → out ≡ take at l ++ bytes 8 x ++ drop (at + 8) l
-unfolding bytes
-all_stored l out at i rest x e f =
-    let end : out ≡ to_be out at 8 rest =
-    sym (ap (λ (k : List ℕ). k ++ drop (at + 8) out) (append-nil (take (at + 8) out))
-    ∙ take-append-drop (at + 8) out) in
-    let begin : at + 0 ≡ at = omega arith in
-    end ∙ ap (λ (n : ℕ). to_be out at n rest) (sym e) ∙ f
-    ∙ ap (λ (n : ℕ). take n l ++ bytes 8 x ++ drop (at + 8) l) begin
 
 -- Eight bytes are eight.
 pub eight : (x : ℕ) → length (bytes 8 x) ≡ 8

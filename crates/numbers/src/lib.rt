@@ -26,36 +26,19 @@ pub fn count(x: u16) -> usize
     x as usize
 }
 
-// Two bytes as a number, the lower first.
-fn pair(low: u8, high: u8) -> u16
-    ensures { result ≡ low + 256 * high }
-{
-    low as u16 + 256 * (high as u16)
-}
-
 // The two bytes from `at` on as a number.
 pub fn two(bytes: &[u8], at: usize) -> u16
     requires { at + 2 ≤ length bytes.now }
     ensures { result ≡ get_or bytes.now at 0 + 256 * get_or bytes.now (at + 1) 0 }
 {
-    pair(bytes[at], bytes[at + 1])
-}
-
-// Four bytes as a number.
-fn four(a: u8, b: u8, c: u8, d: u8) -> u64
-    ensures value { result ≡ a + 256 * (b + 256 * (c + 256 * d)) }
-    ensures upper_bound { result ≤ 4294967295 }
-{
-    a as u64 + 256 * (b as u64 + 256 * (c as u64 + 256 * (d as u64)))
+    u16::from_le_bytes([bytes[at], bytes[at + 1]])
 }
 
 // Two halves as a number, the lower first.
-fn whole(low: u64, high: u64) -> u64
-    requires low_bound { low ≤ 4294967295 }
-    requires high_bound { high ≤ 4294967295 }
+fn whole(low: u32, high: u32) -> u64
     ensures { result ≡ low + 4294967296 * high }
 {
-    low + 4294967296 * high
+    u64::from(low) + 4294967296 * u64::from(high)
 }
 
 // The eight bytes from `at` on as a number.
@@ -63,8 +46,8 @@ pub fn eight(bytes: &[u8], at: usize) -> u64
     requires { at + 8 ≤ length bytes.now }
     ensures { result ≡ number (take 8 (drop at bytes.now)) }
 {
-    let low = four(bytes[at], bytes[at + 1], bytes[at + 2], bytes[at + 3]);
-    let high = four(bytes[at + 4], bytes[at + 5], bytes[at + 6], bytes[at + 7]);
+    let low = u32::from_le_bytes([bytes[at], bytes[at + 1], bytes[at + 2], bytes[at + 3]]);
+    let high = u32::from_le_bytes([bytes[at + 4], bytes[at + 5], bytes[at + 6], bytes[at + 7]]);
     whole(low, high)
 }
 
@@ -74,8 +57,9 @@ pub fn put_two(bytes: &mut [u8], at: usize, x: u32)
     requires x_bound { x ≤ 65535 }
     ensures { bytes.new ≡ set (set bytes.old at (x % 256)) (at + 1) (x / 256) }
 {
-    bytes[at] = (x % 256) as u8;
-    bytes[at + 1] = (x / 256) as u8;
+    let [low, high] = (x as u16).to_le_bytes();
+    bytes[at] = low;
+    bytes[at + 1] = high;
 }
 
 // The eight bytes of a number, from `at` on.
@@ -83,11 +67,5 @@ pub fn put_eight(out: &mut [u8], at: usize, x: u64)
     requires { at + 8 ≤ length out.old }
     ensures { out.new ≡ take at out.old ++ bytes 8 x ++ drop (at + 8) out.old }
 {
-    let mut rest = x;
-    let mut i = 0;
-    while i < 8 {
-        out[at + i] = (rest % 256) as u8;
-        rest = rest / 256;
-        i += 1;
-    }
+    out[at..at + 8].copy_from_slice(&x.to_le_bytes());
 }

@@ -3,6 +3,7 @@
 
 ghost use Rattle.std.specs.Counts.{IsPrefixLen};
 
+use answers::Refusal;
 use std::io::Read;
 use std::rt::Files;
 use std::{fs, io, str};
@@ -14,9 +15,8 @@ fn fill(file: &mut impl Read, buf: &mut [u8]) -> usize
     let mut done = 0;
     while done < buf.len() {
         match file.read(&mut buf[done..]) {
-            Ok(0) => break,
+            Ok(0) | Err(_) => break,
             Ok(n) => done += n,
-            Err(_) => break,
         }
     }
     done
@@ -56,4 +56,9 @@ pub fn write(rt: &(impl Files + Print), name: &[u8], bytes: &[u8]) -> io::Result
 // The last line: number and where of an answer, and how much was done.
 pub fn end(rt: &impl Print, number: usize, at: usize, done: usize) -> io::Result<()> {
     println!(rt; "end {number} {at} {done}")
+}
+
+// The last line of what is refused.
+pub fn refuse(rt: &impl Print, refusal: Refusal) -> io::Result<()> {
+    end(rt, refusal.number(), refusal.at(), refusal.cycles())
 }

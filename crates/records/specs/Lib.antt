@@ -1,2 +1,3 @@
 -- What the functions on one record promise.
 pub mod Record
+pub mod Kinds

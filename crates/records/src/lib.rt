@@ -3,7 +3,13 @@
 
 ghost use Rattle.std.specs.Prelude.{◌≡◌, not, ◌&&◌, ◌||◌, ltb, eqb, get_or};
 ghost use Rattle.meaning.specs.Table.{table};
-ghost use Rattle.records.specs.Record.{Reads, kind_rows, interval_of, fault_of};
+ghost use Rattle.records.specs.Kinds.{kind_number, Examined};
+ghost use Rattle.records.specs.Record.{Reads, kind_rows, interval_of};
+
+mod kind; // kind.rt: the kinds of records
+
+use answers::Refusal;
+pub use kind::{Kind, NoKind};
 
 // The columns of a record: byte 0, byte 1, byte 2, byte 3, bytes 4-5, bytes 6-7.
 #[derive(Clone, Copy)]
@@ -69,41 +75,28 @@ pub fn kinds() -> [[u16; 5]; 7]
 }
 
 // A transition's a and b are as its sort asks.
+#[tactic(auto, unfolding(crate::specs::Record::interval_of, meaning::specs::Defined::interval))]
 fn interval(sort: u8, a: u16, b: u16) -> bool
     ensures { result ≡ interval_of sort a b }
 {
-    if sort == 0 {
-        if a == 0 {
-            return b == 0;
-        }
-        return false;
+    match sort {
+        0 => a == 0 && b == 0,
+        1 => 1 <= a && a <= b && b <= 65534,
+        2 => 1 <= a && b == 0,
+        _ => false,
     }
-    if a == 0 {
-        return false;
-    }
-    if sort == 1 {
-        if a <= b {
-            return b <= 65534;
-        }
-        return false;
-    }
-    if sort == 2 {
-        return b == 0;
-    }
-    false
 }
 
 // A weight of 0, or an interval that is not as its sort asks.
-fn bad_value(kind: u8, sort: u8, a: u16, b: u16) -> bool
-    ensures { result ≡ ((eqb kind 3 && eqb a 0) || (eqb kind 2 && not (interval_of sort a b))) }
+fn bad_value(kind: Kind, sort: u8, a: u16, b: u16) -> bool
+    ensures { result ≡ ((eqb (kind_number kind) 3 && eqb a 0)
+        || (eqb (kind_number kind) 2 && not (interval_of sort a b))) }
 {
-    if kind == 3 {
-        return a == 0;
+    match kind {
+        Kind::Arc => a == 0,
+        Kind::Transition => !interval(sort, a, b),
+        _ => false,
     }
-    if kind == 2 {
-        return !interval(sort, a, b);
-    }
-    false
 }
 
 // A column is above the highest value that the row of its kind allows.
@@ -111,44 +104,27 @@ fn over(row: &[u16; 5], one: u8, two: u8, four: u16, six: u16) -> bool
     ensures { result ≡ (ltb (get_or row.now 0 0) one || ltb (get_or row.now 1 0) two
         || ltb (get_or row.now 3 0) four || ltb (get_or row.now 4 0) six) }
 {
-    if row[0] < numbers::half(one) {
-        return true;
-    }
-    if row[1] < numbers::half(two) {
-        return true;
-    }
-    if row[3] < four {
-        return true;
-    }
-    row[4] < six
+    row[0] < u16::from(one) || row[1] < u16::from(two) || row[3] < four || row[4] < six
 }
 
-// 2 or 3, the first that the record meets, or 0: its kind and its sort exist, then each column is within the row of its
-// kind.
-pub fn fault(x: Rec, kinds: &[[u16; 5]; 7]) -> u8
+// The kind of record r, or the first of 2 and 3 that it meets: its kind and its sort exist, then each column is within
+// the row of its kind.
+pub fn examine(x: Rec, r: usize, kinds: &[[u16; 5]; 7]) -> Result<Kind, Refusal>
     requires { kinds.now ≡ kind_rows }
-    ensures { result ≡ fault_of x }
+    ensures { Examined x r result }
 {
-    let kind = x.kind;
-    if kind == 0 {
-        return 2;
+    let Ok(kind) = Kind::try_from(x.kind) else {
+        return Err(Refusal::Kind { record: r });
+    };
+    let row = &kinds[x.kind as usize - 1];
+    if row[2] < u16::from(x.sort) {
+        return Err(Refusal::Kind { record: r });
     }
-    if 7 < kind {
-        return 2;
+    if over(row, x.one, x.two, x.four, x.six) {
+        return Err(Refusal::Field { record: r });
     }
-    let k = wide(kind) - 1;
-    let row = &kinds[k];
-    let sort = x.sort;
-    let four = x.four;
-    let six = x.six;
-    if row[2] < numbers::half(sort) {
-        return 2;
+    if bad_value(kind, x.sort, x.four, x.six) {
+        return Err(Refusal::Field { record: r });
     }
-    if over(row, x.one, x.two, four, six) {
-        return 3;
-    }
-    if bad_value(kind, sort, four, six) {
-        return 3;
-    }
-    0
+    Ok(kind)
 }

@@ -98,26 +98,16 @@ pub fn with_transition(k: Declared, t: usize) -> Declared
 pub fn transitions(n: usize) -> usize
     ensures { result ≡ transitions_below n }
 {
-    if n < 64 { n } else { 64 }
-}
-
-// The larger of two bytes.
-fn larger(a: u8, b: u8) -> u8
-    ensures { result ≡ larger_of a b }
-{
-    if a < b { b } else { a }
+    n.min(64)
 }
 
 // One more than the highest byte 1 of the records.
 pub fn extent(t: &[u8]) -> usize
     ensures { result ≡ extent_of (table t.now) }
 {
-    let count = t.len() / 8;
-    let mut high: u8 = 0;
-    let mut r = 0;
-    while r < count {
-        high = larger(high, t[8 * r + 1]);
-        r += 1;
+    let mut high = 0;
+    for r in 0..t.len() / 8 {
+        high = t[8 * r + 1].max(high);
     }
-    records::wide(high) + 1
+    usize::from(high) + 1
 }

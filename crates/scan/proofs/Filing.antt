@@ -1,13 +1,12 @@
 -- One more record is filed: what is kept of it is added in its rows, and everything else stays as it was.
-use mathlib.Core.Bool.{Bool, true, false, cond, ◌&&◌, ◌||◌, or-false}
+use mathlib.Core.Bool.{true, false, cond, ◌&&◌, ◌||◌, or-false}
 use mathlib.Core.List.{List, []}
-use mathlib.Core.Path.{◌≡◌, refl, sym, ap, ◌∙◌}
+use mathlib.Core.Path.{◌≡◌, sym, ◌∙◌}
 use Prim.Native.Nat.{ℕ, suc, ◌<◌}
 use native.Mathlib.Omega.{arith}
 use lib.Dec.{eqb}
 use lib.ListN.{length, get_or, set, length-set}
-use lib.Seq.{get_or-set_same, get_or-set_other}
-use borrow.Author.Tests.{eqb-true, eqb-false}
+use Rattle.std.proofs.lemmas.Grind.{common_steps}
 use Rattle.meaning.specs.Below.{some}
 use Rattle.meaning.specs.Bytes.{bit}
 use Rattle.meaning.specs.Table.{Table, is}
@@ -49,8 +48,8 @@ module _ {tb : Table} {r : ℕ} {f : ℕ → ℕ} {m : List (List ℕ)} (g : Cel
   unfolding latest
   cells_more e there low =
       record {
-        wide = λ p h. width p (omega (arith, h, length-set m o (set (get_or m o []) u (f r)))) (eqb o p) refl;
-        holds = λ p t h l. rw (e, ← g.holds p t h l) (at p t l (eqb o p) (eqb u t) refl refl);
+        wide = λ p h. width p (omega (arith, h, length-set m o (set (get_or m o []) u (f r))));
+        holds = λ p t h l. rw (e, ← g.holds p t h l) (at p t l);
       }
     where
       o : ℕ
@@ -62,24 +61,11 @@ module _ {tb : Table} {r : ℕ} {f : ℕ → ℕ} {m : List (List ℕ)} (g : Cel
       line : List ℕ
       line = set (get_or m o []) u (f r)
 
-      width : (p : ℕ) → p < length m → (b : Bool) → eqb o p ≡ b → length (get_or (set m o line) p []) ≡ 64
-      width p h true e =
-          rw (← eqb-true o p e) (ap length (get_or-set_same m o line [] there) ∙ length-set (get_or m o []) u (f r)
-          ∙ g.wide o there)
-      width p h false e = ap length (get_or-set_other m o p line [] (λ z. eqb-false o p e (sym z))) ∙ g.wide p h
+      width : (p : ℕ) → p < length m → length (get_or (set m o line) p []) ≡ 64
+      width p h = grind (arith, common_steps, g.wide)
 
-      at : (p t : ℕ) → t < 64 → (a b : Bool) → eqb o p ≡ a → eqb u t ≡ b
-          → cell (set m o line) p t ≡ cond (a && b) (f r) (cell m p t)
-      at p t l true true x y =
-          rw (← eqb-true o p x, ← eqb-true u t y)
-          (ap (λ (z : List ℕ). get_or z u 0) (get_or-set_same m o line [] there)
-          ∙ get_or-set_same (get_or m o []) u (f r) 0 (omega (arith, low, g.wide o there)))
-      at p t l true false x y =
-          rw (← eqb-true o p x)
-          (ap (λ (z : List ℕ). get_or z t 0) (get_or-set_same m o line [] there)
-          ∙ get_or-set_other (get_or m o []) u t (f r) 0 (λ z. eqb-false u t y (sym z)))
-      at p t l false b x y =
-          ap (λ (z : List ℕ). get_or z t 0) (get_or-set_other m o p line [] (λ z. eqb-false o p x (sym z)))
+      at : (p t : ℕ) → t < 64 → cell (set m o line) p t ≡ cond (eqb o p && eqb u t) (f r) (cell m p t)
+      at p t l = let wide = g.wide o there in grind (arith, common_steps)
 
 -- TIMES
 
@@ -100,17 +86,18 @@ module _ {tb : Table} {r : ℕ} {times : List ℕ} (g : Timed tb r times) where
   unfolding latest
   timed_more {x} reads e kept =
       record {
-        first_is = λ t h. kept.holds t 0 h (omega arith) ∙ rw (reads.one, reads.four, e, g.first_is t h);
-        limit_is =
-            λ t h. kept.holds t 1 h (omega arith) ∙ rw (
-              reads.one,
-              reads.four,
-              reads.six,
-              reads.sort,
-              e,
-              g.limit_is t h,
-            );
-        last_is = λ t h. kept.holds t 2 h (omega arith) ∙ rw (reads.one, reads.six, reads.sort, e, g.last_is t h);
+        first_is = λ t h.
+            let stored = kept.holds t 0 h (omega arith) in
+            let before = g.first_is t h in
+            grind (arith, common_steps);
+        limit_is = λ t h.
+            let stored = kept.holds t 1 h (omega arith) in
+            let before = g.limit_is t h in
+            grind (arith, common_steps);
+        last_is = λ t h.
+            let stored = kept.holds t 2 h (omega arith) in
+            let before = g.last_is t h in
+            grind (arith, common_steps);
       }
 
 -- WHAT IS DECLARED
@@ -121,8 +108,8 @@ module _ {tb : Table} {r : ℕ} {known : Declared} (g : Known tb r known) where
   unfolding some
   known_same e f =
       record {
-        places = λ p h. g.places p h ∙ rw e (sym (or-false (some r (declares tb 1 p))));
-        transitions = λ t h. g.transitions t h ∙ rw f (sym (or-false (some r (declares tb 2 t))));
+        places = λ p h. let before = g.places p h in grind (arith, common_steps);
+        transitions = λ t h. let before = g.transitions t h in grind (arith, common_steps);
       }
 
   -- It declares a place.
@@ -133,8 +120,7 @@ module _ {tb : Table} {r : ℕ} {known : Declared} (g : Known tb r known) where
   known_place e f p_is gains same =
       record {
         places = λ q h. gains q h ∙ rw (e, p_is, g.places q h);
-        transitions =
-            λ t h. ap (λ (s : ℕ). bit s t) same ∙ g.transitions t h ∙ rw f (sym (or-false (some r (declares tb 2 t))));
+        transitions = λ t h. let before = g.transitions t h in grind (arith, common_steps);
       }
 
   -- It declares a transition.

@@ -15,8 +15,7 @@ use Rattle.records.specs.Record.{Reads, alone}
 use Rattle.rows.specs.declared.Declared.{Declared}
 use Rattle.rows.specs.Rows.{has}
 use Rattle.rows.specs.Filed.{input, kept_in, post_of, Filed}
-use Rattle.meaning.proofs.Shows.{each_kind}
-use Rattle.scan.specs.Scan.{own_row, Kept, InputKept, PostKept, TimesKept}
+use Rattle.scan.specs.Scan.{Kept, InputKept, PostKept, TimesKept}
 use Rattle.scan.proofs.Slots.{by_row, kept_none}
 use Rattle.scan.proofs.Filing
 use Rattle.rows.proofs.Arcs.{link_le}
@@ -140,14 +139,18 @@ in_no_row x rows kind k arcs conditions pairs actions functions =
     (rw (k, functions)) (rw (k, pairs)))
 
 -- A priority, an action or a function stands in one.
-pub in_own_row : (x : Rec) → 5 ≤ x.kind → x.kind ≤ 7 → (c : ℕ) → c < 8
-    → kept_in (alone x) c 0 ≡ eqb (own_row x.kind 0) c
-unfolding kept_in own_row
-in_own_row x low high =
-    each_kind (λ k. x.kind ≡ k → (c : ℕ) → c < 8 → kept_in (alone x) c 0 ≡ eqb (own_row k 0) c)
-    (λ e. absurd (omega (arith, e, low)))
-    (λ e. absurd (omega (arith, e, low))) (λ e. absurd (omega (arith, e, low))) (λ e. absurd (omega (arith, e, low)))
-    (λ e. by_row (λ c. kept_in (alone x) c 0 ≡ eqb 7 c) (rw e) (rw e) (rw e) (rw e) (rw e) (rw e) (rw e) (rw e))
-    (λ e. by_row (λ c. kept_in (alone x) c 0 ≡ eqb 3 c) (rw e) (rw e) (rw e) (rw e) (rw e) (rw e) (rw e) (rw e))
-    (λ e. by_row (λ c. kept_in (alone x) c 0 ≡ eqb 6 c) (rw e) (rw e) (rw e) (rw e) (rw e) (rw e) (rw e) (rw e))
-    x.kind (omega (arith, low)) high refl
+module _ (x : Rec) where
+  pub priority_row : x.kind ≡ 5 → (c : ℕ) → c < 8 → kept_in (alone x) c 0 ≡ eqb 7 c
+  unfolding kept_in
+  priority_row e =
+      by_row (λ c. kept_in (alone x) c 0 ≡ eqb 7 c) (rw e) (rw e) (rw e) (rw e) (rw e) (rw e) (rw e) (rw e)
+
+  pub action_row : x.kind ≡ 6 → (c : ℕ) → c < 8 → kept_in (alone x) c 0 ≡ eqb 3 c
+  unfolding kept_in
+  action_row e =
+      by_row (λ c. kept_in (alone x) c 0 ≡ eqb 3 c) (rw e) (rw e) (rw e) (rw e) (rw e) (rw e) (rw e) (rw e)
+
+  pub function_row : x.kind ≡ 7 → (c : ℕ) → c < 8 → kept_in (alone x) c 0 ≡ eqb 6 c
+  unfolding kept_in
+  function_row e =
+      by_row (λ c. kept_in (alone x) c 0 ≡ eqb 6 c) (rw e) (rw e) (rw e) (rw e) (rw e) (rw e) (rw e) (rw e)

@@ -8,23 +8,27 @@ use Prim.Native.Nat.{ℕ, suc, ◌+◌, ◌*◌, ◌-◌, ◌<◌}
 use native.Mathlib.Nat.{not-suc-le-zero}
 use native.Mathlib.Omega.{arith}
 use lib.Dec.{ltb}
-use lib.ListN.{length, get_or, replicate, length-replicate, get_or-replicate, get_or-eq_default}
-use borrow.Author.Tests.{lt-ltb, le-ltb, ltb-true, ltb-false, ne_eqb}
+use lib.ListN.{length, get_or, replicate, length-replicate, get_or-replicate}
+use borrow.Author.Tests.{ne_eqb}
+use Rattle.std.proofs.lemmas.Grind.{common_steps}
 use Rattle.meaning.specs.Below.{some}
 use Rattle.meaning.specs.Bytes.{bit}
 use Rattle.meaning.specs.Table.{Table}
+use Rattle.meaning.specs.Answer.{refused}
 use Rattle.meaning.specs.Defined.{fault, faulty}
 use Rattle.meaning.proofs.Below.{last, first_is, first_none}
 use Rattle.meaning.proofs.Faults.{faultless}
 use Rattle.sets.proofs.Bits.{bit_zero}
 use Rattle.sets.proofs.Rows.{all_zero}
+use Rattle.answers.specs.declared.Refusal.{Refusal}
+use Rattle.answers.specs.declared.Refusal.TheVariants as refusal
+use Rattle.answers.specs.Numbered.{refusal_told}
 use Rattle.records.specs.declared.Rec.{Rec}
 use Rattle.records.specs.Record.{Reads, fault_of}
 use Rattle.rows.specs.declared.Declared.{Declared}
-use Rattle.rows.specs.Rows.{cell, has}
+use Rattle.rows.specs.Rows.{has}
 use Rattle.rows.specs.Filed.{latest, link, Paired, Cells, Filed}
-use Rattle.scan.specs.declared.Step.{Step}
-use Rattle.scan.specs.Scan.{again_by, Keeps, Blank, Scanned}
+use Rattle.scan.specs.Scan.{again_by, Adds, SameRoom, Blank, FirstFault, AllFiled}
 use Rattle.scan.proofs.Sound.{own_fault, in_order, one_low, two_low}
 use Rattle.scan.proofs.Twice.{again_twice}
 
@@ -36,40 +40,21 @@ pub record Passed (tb : Table) (r : ℕ) (rows : List ℕ) (w s : List (List ℕ
   pub heads_size : length heads ≡ 64
   pub times_size : length times ≡ 192
 
--- There is as much room as at the beginning.
-pub record SameSizes (rows : List ℕ) (w s : List (List ℕ)) (posts rows' : List ℕ) (w' s' : List (List ℕ))
-    (posts' : List ℕ) : Type 0 where
-  pub rows_same : length rows' ≡ length rows
-  pub weights_same : length w' ≡ length w
-  pub sorts_same : length s' ≡ length s
-  pub posts_same : length posts' ≡ length posts
-
 -- A list of zeros has 0 everywhere.
 zeros : (n : ℕ) (xs : List ℕ) → xs ≡ replicate n 0 → (q : ℕ) → get_or xs q 0 ≡ 0
 zeros n xs e = all_zero xs (e ∙ ap (λ (m : ℕ). replicate m 0) (sym (length-replicate {A = ℕ} n 0) ∙ ap length (sym e)))
 
 -- Cells of which none is stored yet.
+unset : (line : List ℕ) (n p t : ℕ) → get_or line t 0 ≡ 0 → get_or (get_or (replicate n line) p []) t 0 ≡ 0
+unset line n p t e = grind (arith, common_steps)
+
 blank_cells : (tb : Table) (f : ℕ → ℕ) (n : ℕ) {m : List (List ℕ)} → m ≡ replicate n (replicate 64 0) → Cells tb 0 f m
 unfolding latest
 blank_cells tb f n {m} e =
-    rw e (record {
-      wide = λ p h. width p (omega (arith, h, length-replicate n line));
-      holds =
-          λ p t h l. nothing p t l (ltb p n) refl;
-    })
-  where
-    line : List ℕ
-    line = replicate 64 0
-
-    width : (p : ℕ) → p < n → length (get_or (replicate n line) p []) ≡ 64
-    width p h = ap (λ (l : List ℕ). length l) (get_or-replicate n p line [] h) ∙ length-replicate {A = ℕ} 64 0
-
-    nothing : (p t : ℕ) → t < 64 → (b : Bool) → ltb p n ≡ b → cell (replicate n line) p t ≡ 0
-    nothing p t l true q =
-        ap (λ (z : List ℕ). get_or z t 0) (get_or-replicate n p line [] (ltb-true p n q)) ∙ get_or-replicate 64 t 0 0 l
-    nothing p t l false q =
-        ap (λ (z : List ℕ). get_or z t 0) (get_or-eq_default (replicate n line) []
-        (omega (arith, ltb-false p n q, length-replicate n line)))
+    record {
+      wide = λ p h. grind (arith, common_steps);
+      holds = λ p t h l. rw e (unset (replicate 64 0) n p t (zeros 64 _ refl t));
+    }
 
 -- Before the first record.
 pub passed_none : (tb : Table) {rows : List ℕ} {w s : List (List ℕ)} {heads posts times : List ℕ}
@@ -112,11 +97,7 @@ passed_none tb {rows} {w} {s} {heads} {posts} {times} blank =
     no_time t j = zeros 192 times blank.no_times (3 * t + j)
 
     none_known : (p : ℕ) → cond (ltb p 64) (bit 0 p) (bit 0 (p - 64)) ≡ false
-    none_known p = rw (bit_zero p, bit_zero (p - 64)) (same (ltb p 64))
-      where
-        same : (b : Bool) → cond b false false ≡ false
-        same true = refl
-        same false = refl
+    none_known p = grind (arith, common_steps, bit_zero)
 
 -- A record that is passed is filed.
 module _ {tb : Table} {r : ℕ} {rows : List ℕ} {w s : List (List ℕ)} {heads posts times : List ℕ} {known : Declared}
@@ -133,54 +114,52 @@ module _ {tb : Table} {r : ℕ} {rows : List ℕ} {w s : List (List ℕ)} {heads
       (one_low shown.0) (two_low shown.0)))
 
   -- The pass ends at a record that has a fault.
-  ends_at : r < tb.records → (f : ℕ) → fault tb r ≡ f → ¬ (f ≡ 0)
-      → {rows' : List ℕ} {w' s' : List (List ℕ)} {heads' posts' times' : List ℕ}
-      → Scanned tb (record { number = f; at = r; known = known }) rows' w' s' heads' posts' times'
+  ends_at : r < tb.records → {e : Refusal} → ¬ (fault tb r ≡ 0) → refusal_told e ≡ refused (fault tb r) r
+      → FirstFault tb e
   unfolding faulty
-  ends_at here f e n =
-      record {
-        at_is = sym (first_is tb.records (faulty tb) r here (rw (e, ne_eqb f 0 n)) passed.before);
-        number_is = rw (lt-ltb r tb.records here) (sym e);
-        filed = λ z. absurd (n z);
-        paired = λ z. absurd (n z);
-        lengths = λ z. absurd (n z);
-      }
+  ends_at here n told =
+      let at = first_is tb.records (faulty tb) r here (rw (ne_eqb (fault tb r) 0 n)) passed.before in
+      record { some = rw at here; told = rw at told }
 
-  pub ends_own : r < tb.records → (f : ℕ) → f ≡ fault_of x → ¬ (f ≡ 0)
-      → {rows' : List ℕ} {w' s' : List (List ℕ)} {heads' posts' times' : List ℕ}
-      → Scanned tb (record { number = f; at = r; known = known }) rows' w' s' heads' posts' times'
-  ends_own here f e n = ends_at here f (own_fault tb r x reads (λ z. n (e ∙ z)) ∙ sym e) n
+  pub ends_own : r < tb.records → {e : Refusal} → ¬ (fault_of x ≡ 0) → refusal_told e ≡ refused (fault_of x) r
+      → FirstFault tb e
+  ends_own here n told =
+      let own = own_fault tb r x reads n in
+      ends_at here (λ z. n (sym own ∙ z)) (rw own told)
 
-  module _ (sound : fault_of x ≡ 0) {k : Step} {rows' : List ℕ} {w' s' : List (List ℕ)} {heads' posts' times' : List ℕ}
-      (keeps : Keeps x r known k rows w s heads posts times rows' w' s' heads' posts' times') where
-    pub ends_again : r < tb.records → k.again ≡ true
-        → Scanned tb (record { number = 4; at = r; known = known }) rows' w' s' heads' posts' times'
-    ends_again here e = ends_at here 4 (fault_is sound ∙ rw (← keeps.again_is, e)) (λ z. omega (arith, z))
+  module _ (sound : fault_of x ≡ 0) where
+    pub ends_again : r < tb.records → again_by x known rows ≡ true → FirstFault tb (refusal.Twice r)
+    ends_again here e =
+        let four : fault tb r ≡ 4 = fault_is sound ∙ rw e in
+        ends_at here (λ z. omega (arith, z, four)) (rw four)
 
     -- It goes on past a record that has none.
-    pub passed_one : k.again ≡ false → Passed tb (suc r) rows' w' s' heads' posts' times' k.known
+    pub passed_one : {after : Declared} {rows' : List ℕ} {w' s' : List (List ℕ)} {heads' posts' times' : List ℕ}
+        → again_by x known rows ≡ false
+        → Adds x r known after rows w s heads posts times rows' w' s' heads' posts' times'
+        → SameRoom rows w s heads posts times rows' w' s' heads' posts' times'
+        → Passed tb (suc r) rows' w' s' heads' posts' times' after
     unfolding faulty
-    passed_one e =
+    passed_one e adds room =
         record {
           before =
-              λ j l. ⊎_elim (λ (z : j ≡ r). ap (faulty tb) z ∙ rw (fault_is sound, ← keeps.again_is, e))
+              λ j l. ⊎_elim (λ (z : j ≡ r). ap (faulty tb) z ∙ rw (fault_is sound, e))
               (passed.before j) (last l);
-          filed = keeps.filed tb reads e passed.filed;
-          paired = keeps.paired tb reads e passed.paired;
-          heads_size = keeps.room.heads_same ∙ passed.heads_size;
-          times_size = keeps.room.times_same ∙ passed.times_size;
+          filed = adds.filed tb reads passed.filed;
+          paired = adds.paired tb reads passed.paired;
+          heads_size = room.heads_same ∙ passed.heads_size;
+          times_size = room.times_same ∙ passed.times_size;
         }
 
 -- The pass is over.
-pub ends_all : {tb : Table} {r n : ℕ} {rows : List ℕ} {w s : List (List ℕ)} {heads posts times : List ℕ}
+pub ends_all : {tb : Table} {r : ℕ} {rows : List ℕ} {w s : List (List ℕ)} {heads posts times : List ℕ}
     {known : Declared}
-    → Passed tb r rows w s heads posts times known → r ≡ tb.records → n ≡ tb.records
-    → Scanned tb (record { number = 0; at = n; known = known }) rows w s heads posts times
-ends_all {tb} {r} {n} {rows} {w} {s} {heads} {posts} {times} {known} passed e count =
+    → Passed tb r rows w s heads posts times known → r ≡ tb.records → AllFiled tb known rows w s heads posts times
+ends_all {tb} {r} {rows} {w} {s} {heads} {posts} {times} {known} passed e =
+    let all = subst (λ (k : ℕ). Passed tb k rows w s heads posts times known) e passed in
     record {
-      at_is = count ∙ sym (first_none tb.records (faulty tb) (λ k l. passed.before k (rw (← e) at l)));
-      number_is = rw (le-ltb n tb.records (omega (arith, count)));
-      filed = λ z. subst (λ (k : ℕ). Filed tb k rows w s heads posts times known) e passed.filed;
-      paired = λ z. subst (λ (k : ℕ). Paired tb k rows) e passed.paired;
-      lengths = λ z. (passed.heads_size, passed.times_size);
+      none = first_none tb.records (faulty tb) all.before;
+      filed = all.filed;
+      paired = all.paired;
+      lengths = (all.heads_size, all.times_size);
     }

@@ -1,12 +1,12 @@
 -- A record is entered in the row of its own that each number has: eight rows a number, so the number and the row tell
 -- the slot.
-use mathlib.Core.Bool.{Bool, true, false, ◌&&◌, ◌||◌, or-false}
+use mathlib.Core.Bool.{Bool, false, ◌&&◌, ◌||◌, or-false}
 use mathlib.Core.List.{List}
-use mathlib.Core.Path.{◌≡◌, refl, sym, ap, ◌∙◌}
+use mathlib.Core.Path.{◌≡◌, sym, ap, ◌∙◌}
 use Prim.Native.Nat.{ℕ, zero, suc, ◌+◌, ◌*◌, ◌<◌}
 use native.Mathlib.Omega.{arith}
 use lib.Dec.{eqb}
-use borrow.Author.Tests.{eqb-true, eqb-false, eq-eqb, ne_eqb}
+use Rattle.std.proofs.lemmas.Grind.{common_steps}
 use Rattle.meaning.specs.Bytes.{bit}
 use Rattle.records.specs.declared.Rec.{Rec}
 use Rattle.records.specs.Record.{alone}
@@ -16,16 +16,7 @@ use Rattle.scan.specs.Scan.{Entered, Kept}
 
 -- Two slots are one exactly if their rows and their numbers are.
 pub slot : (a i d c : ℕ) → d < 8 → c < 8 → eqb (8 * a + d) (8 * i + c) ≡ (eqb d c && eqb a i)
-slot a i d c h k = go (eqb d c) (eqb a i) refl refl
-  where
-    go : (x y : Bool) → eqb d c ≡ x → eqb a i ≡ y → eqb (8 * a + d) (8 * i + c) ≡ (x && y)
-    go true true e f = eq-eqb (8 * a + d) (8 * i + c) (omega (arith, eqb-true d c e, eqb-true a i f))
-    go true false e f =
-        let no : ¬ (a ≡ i) = eqb-false a i f in
-        ne_eqb (8 * a + d) (8 * i + c) (λ z. no (omega (arith, z, h, k)))
-    go false y e f =
-        let no : ¬ (d ≡ c) = eqb-false d c e in
-        ne_eqb (8 * a + d) (8 * i + c) (λ z. no (omega (arith, z, h, k)))
+slot a i d c h k = grind (arith, common_steps)
 
 -- What holds of each of the eight rows holds of a row below 8.
 pub by_row : (P : ℕ → Type 0) → P 0 → P 1 → P 2 → P 3 → P 4 → P 5 → P 6 → P 7 → (c : ℕ) → c < 8 → P c
@@ -50,8 +41,7 @@ module _ (x : Rec) (rows : List ℕ) where
       (sym (and_three (eqb d c) (eqb x.one i) (eqb x.two j))))
     where
       and_three : (a b c : Bool) → (a && (b && c)) ≡ ((a && b) && c)
-      and_three true b c = refl
-      and_three false b c = refl
+      and_three a b c = grind (arith, common_steps)
 
   -- It is kept by one row, or by two; or by none.
   pub kept_one : {q y d : ℕ} {after : List ℕ} → Entered rows q y after → q ≡ 8 * x.one + d → y ≡ x.two → d < 8
@@ -76,8 +66,4 @@ kept_two x rows {q} {y} {d} {mid} entered q_is y_is low {q'} {y'} {d'} {after} e
     }
   where
     either : (b e f g : Bool) → ((b || (e && g)) || (f && g)) ≡ (b || ((e || f) && g))
-    either true e f g = refl
-    either false true true true = refl
-    either false true true false = refl
-    either false true false g = or-false g
-    either false false f g = refl
+    either b e f g = grind (arith, common_steps)

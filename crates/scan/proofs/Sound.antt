@@ -4,6 +4,7 @@ use mathlib.Core.Bool.{Bool, true, false, cond}
 use mathlib.Core.Path.{◌≡◌, refl}
 use Prim.Native.Nat.{ℕ, ◌≤◌, ◌<◌}
 use native.Mathlib.Omega.{arith}
+use Rattle.std.proofs.lemmas.Grind.{common_steps}
 use Rattle.meaning.specs.Table.{Table}
 use Rattle.meaning.specs.Defined.{bad_kind, bad_field, interval, twice, fault}
 use Rattle.meaning.proofs.Shows.{Shows, shows}
@@ -40,13 +41,10 @@ module _ (tb : Table) (r : ℕ) (x : Rec) (reads : Reads tb r x) where
   -- Its fault where its columns have one; else it is shown, and what is left is whether it stands there twice.
   pub own_fault : (fault_of x ≡ 0 → ⊥) → fault tb r ≡ fault_of x
   unfolding fault fault_of
-  own_fault = rw (kind_read, field_read) (go (bad_kind tb r) (bad_field tb r))
-    where
-      go : (k f : Bool) → (◌≡◌ {A = ℕ} (cond k 2 (cond f 3 0)) 0 → ⊥)
-          → ◌≡◌ {A = ℕ} (cond k 2 (cond f 3 (cond (twice tb r) 4 0))) (cond k 2 (cond f 3 0))
-      go true f h = refl
-      go false true h = refl
-      go false false h = absurd (h refl)
+  own_fault n =
+      let kind = kind_read in
+      let field = field_read in
+      grind (arith, common_steps)
 
   pub in_order : fault_of x ≡ 0 → Shows tb r × (fault tb r ≡ cond (twice tb r) 4 0)
   unfolding fault fault_of
@@ -76,3 +74,6 @@ module _ (x : Rec) (sound : fault_of x ≡ 0) where
 
   pub transition_there : x.kind ≡ 2 → x.one < 64
   transition_there k = omega (arith, (shown_transition (of_kind (alone x) 0 2 shown_alone k)).0)
+
+-- What its numbers are below.
+pub ruleset in_range = (one_there, two_there, sort_there, transition_there)

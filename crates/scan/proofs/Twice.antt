@@ -6,6 +6,7 @@ use Prim.Native.Nat.{ℕ, ◌≤◌, ◌<◌}
 use native.Mathlib.Omega.{arith}
 use lib.Dec.{eqb, ltb}
 use borrow.Author.Tests.{eqb-true, eqb-false, eq-eqb, lt-ltb, le-ltb}
+use Rattle.std.proofs.lemmas.Grind.{common_steps}
 use Rattle.meaning.specs.Below.{some}
 use Rattle.meaning.specs.Bytes.{bit}
 use Rattle.meaning.specs.Table.{Table, is, post}
@@ -22,34 +23,17 @@ use Rattle.scan.specs.Scan.{own_row, again_by}
 
 -- The tests of two records that say the same, in the rows' order.
 plain_order : (a o t p : Bool) → (a && (o && t)) ≡ (((a && o) && t) && (not false || p))
-plain_order true true true p = refl
-plain_order true true false p = refl
-plain_order true false t p = refl
-plain_order false o t p = refl
+plain_order a o t p = grind (arith, common_steps)
 
 posts_order : (a b o t : Bool) → ((a && b) && (o && t)) ≡ (((a && o) && t) && (not true || beq (a && b) true))
-posts_order true true true true = refl
-posts_order true true true false = refl
-posts_order true true false t = refl
-posts_order true false true true = refl
-posts_order true false true false = refl
-posts_order true false false t = refl
-posts_order false b o t = refl
+posts_order a b o t = grind (arith, common_steps)
 
 inputs_order : (a b i o t : Bool) → (a ≡ true → i ≡ not b)
     → ((a && i) && (o && t)) ≡ (((a && o) && t) && (not true || beq (a && b) false))
-inputs_order true true i true true h = rw (h refl)
-inputs_order true true i true false h = rw (h refl)
-inputs_order true true i false t h = rw (h refl)
-inputs_order true false i true true h = rw (h refl)
-inputs_order true false i true false h = rw (h refl)
-inputs_order true false i false t h = rw (h refl)
-inputs_order false b i o t h = refl
+inputs_order a b i o t h = grind (arith, common_steps)
 
 alone_order : (a o t p : Bool) → (a ≡ true → t ≡ true) → (a && o) ≡ (((a && o) && t) && (not false || p))
-alone_order true true t p h = rw (h refl)
-alone_order true false t p h = refl
-alone_order false o t p h = refl
+alone_order a o t p h = grind (arith, common_steps)
 
 module _ (tb : Table) (r : ℕ) (shown : Shows tb r) (before : (k : ℕ) → k < r → Shows tb k) {x : Rec}
     (reads : Reads tb r x)

@@ -1,18 +1,19 @@
 -- What becomes of one record in the rows, and what the pass over all of them leaves.
-use Rattle.std.specs.Prelude.{Bool, false, cond, ◌&&◌, ◌||◌, List, [], ◌∷◌, ◌≡◌, ℕ, suc, ◌+◌, ◌*◌, ◌≤◌, ◌<◌, eqb, ltb}
-use Rattle.std.specs.Prelude.{length, get_or, set, replicate}
+use Rattle.std.specs.Prelude.{Bool, true, false, cond, ◌&&◌, ◌||◌, List, [], ◌∷◌, ◌≡◌, ℕ, suc, ◌+◌, ◌*◌, ◌≤◌, ◌<◌, eqb}
+use Rattle.std.specs.Prelude.{length, get_or, set, replicate, Option, MatchOption, Result, MatchResult}
 use Rattle.meaning.specs.Below.{first}
 use Rattle.meaning.specs.Bytes.{bit}
 use Rattle.meaning.specs.Table.{Table}
+use Rattle.meaning.specs.Answer.{refused}
 use Rattle.meaning.specs.Defined.{fault, faulty}
+use Rattle.answers.specs.declared.Refusal.{Refusal}
+use Rattle.answers.specs.Numbered.{refusal_told}
 use Rattle.records.specs.declared.Rec.{Rec}
 use Rattle.records.specs.Record.{Reads, alone, fault_of}
 use Rattle.rows.specs.declared.Declared.{Declared}
 use Rattle.rows.specs.Extent.{Roomy}
 use Rattle.rows.specs.Rows.{row, has}
 use Rattle.rows.specs.Filed.{kept_in, joins, limit_in, last_in, Paired, Filed}
-use Rattle.scan.specs.declared.Pass.{Pass}
-use Rattle.scan.specs.declared.Step.{Step}
 
 -- Row q has y beside what it had, and the others are as they were.
 pub record Entered (rows : List ℕ) (q y : ℕ) (after : List ℕ) : Type 0 where
@@ -89,14 +90,20 @@ pub record SameRoom (rows : List ℕ) (w s : List (List ℕ)) (heads posts times
   pub posts_same : length posts' ≡ length posts
   pub times_same : length times' ≡ length times
 
--- Whether the record is one too many; and if it is not, what was filed of the records before it is filed of it too.
-pub record Keeps (x : Rec) (r : ℕ) (known : Declared) (k : Step) (rows : List ℕ) (w s : List (List ℕ))
+-- What was filed of the records before it is filed of it too.
+pub record Adds (x : Rec) (r : ℕ) (known after : Declared) (rows : List ℕ) (w s : List (List ℕ))
     (heads posts times rows' : List ℕ) (w' s' : List (List ℕ)) (heads' posts' times' : List ℕ) : Type 0 where
-  pub again_is : k.again ≡ again_by x known rows
+  pub filed : (tb : Table) → Reads tb r x → Filed tb r rows w s heads posts times known
+      → Filed tb (suc r) rows' w' s' heads' posts' times' after
+  pub paired : (tb : Table) → Reads tb r x → Paired tb r rows → Paired tb (suc r) rows'
+
+-- None where the record is one too many; if it is not, it is added, and what is declared after it is told.
+pub record Keeps (x : Rec) (r : ℕ) (known : Declared) (k : Option Declared) (rows : List ℕ) (w s : List (List ℕ))
+    (heads posts times rows' : List ℕ) (w' s' : List (List ℕ)) (heads' posts' times' : List ℕ) : Type 0 where
+  pub told : MatchOption k (again_by x known rows ≡ true)
+      (λ after. (again_by x known rows ≡ false)
+      × Adds x r known after rows w s heads posts times rows' w' s' heads' posts' times')
   pub room : SameRoom rows w s heads posts times rows' w' s' heads' posts' times'
-  pub filed : (tb : Table) → Reads tb r x → k.again ≡ false → Filed tb r rows w s heads posts times known
-      → Filed tb (suc r) rows' w' s' heads' posts' times' k.known
-  pub paired : (tb : Table) → Reads tb r x → k.again ≡ false → Paired tb r rows → Paired tb (suc r) rows'
 
 -- Nothing is filed yet, and there is room for the numbers and the records of the table.
 pub record Blank (tb : Table) (rows : List ℕ) (w s : List (List ℕ)) (heads posts times : List ℕ) : Type 0 where
@@ -109,11 +116,21 @@ pub record Blank (tb : Table) (rows : List ℕ) (w s : List (List ℕ)) (heads p
   pub posts_there : 3 * tb.records ≤ length posts
   pub no_times : times ≡ replicate 192 0
 
--- The pass ends at the first record that meets 2, 3 or 4, with its number; where there is none, all records are filed.
-pub record Scanned (tb : Table) (p : Pass) (rows : List ℕ) (w s : List (List ℕ))
+-- The refusal is of the first record that meets 2, 3 or 4, with its number.
+pub record FirstFault (tb : Table) (e : Refusal) : Type 0 where
+  pub some : first tb.records (faulty tb) < tb.records
+  pub told : refusal_told e ≡ refused (fault tb (first tb.records (faulty tb))) (first tb.records (faulty tb))
+
+-- No record meets one, and all are filed.
+pub record AllFiled (tb : Table) (known : Declared) (rows : List ℕ) (w s : List (List ℕ))
     (heads posts times : List ℕ) : Type 0 where
-  pub at_is : p.at ≡ first tb.records (faulty tb)
-  pub number_is : p.number ≡ cond (ltb p.at tb.records) (fault tb p.at) 0
-  pub filed : p.number ≡ 0 → Filed tb tb.records rows w s heads posts times p.known
-  pub paired : p.number ≡ 0 → Paired tb tb.records rows
-  pub lengths : p.number ≡ 0 → (length heads ≡ 64) × (length times ≡ 192)
+  pub none : first tb.records (faulty tb) ≡ tb.records
+  pub filed : Filed tb tb.records rows w s heads posts times known
+  pub paired : Paired tb tb.records rows
+  pub lengths : (length heads ≡ 64) × (length times ≡ 192)
+
+-- The pass ends at the first record that meets 2, 3 or 4, with its number; where there is none, all records are filed.
+abbrev pub Scanned : Table → Result Declared Refusal → List ℕ → List (List ℕ) → List (List ℕ)
+    → List ℕ → List ℕ → List ℕ → Type 0
+Scanned tb result rows w s heads posts times =
+    MatchResult result (λ known. AllFiled tb known rows w s heads posts times) (FirstFault tb)

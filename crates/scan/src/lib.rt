@@ -1,14 +1,18 @@
 // A table read into rows in one pass over its records, each tested for 2, 3 and 4 on the way.
 #![tactic(auto)]
 
-ghost use Rattle.std.specs.Prelude.{true, false, cond, ◌≡◌, suc, ◌+◌, ◌*◌, ◌≤◌, ◌<◌, eqb, length, get_or};
+ghost use Rattle.std.specs.Prelude.{true, false, cond, ◌≡◌, suc, ◌+◌, ◌*◌, ◌≤◌, ◌<◌, eqb, length, get_or, ℕ};
 ghost use Rattle.meaning.specs.Bytes.{bit};
 ghost use Rattle.meaning.specs.Table.{table};
-ghost use Rattle.rows.specs.Rows.{inputs, givers, looks};
-ghost use Rattle.scan.specs.Scan.{Entered, Kept, Room, InputKept, PostKept, TimesKept, own_row};
+ghost use Rattle.records.specs.Record.{alone};
+ghost use Rattle.records.specs.Kinds.{kind_number};
+ghost use Rattle.rows.specs.Filed.{kept_in};
+ghost use Rattle.rows.specs.Rows.{row, inputs, givers, looks};
+ghost use Rattle.scan.specs.Scan.{Entered, Kept, Room, InputKept, PostKept, TimesKept};
 ghost use Rattle.scan.specs.Scan.{KeepAsks, Keeps, Blank, Scanned};
 
-use records::Rec;
+use answers::Refusal;
+use records::{Kind, Rec};
 use rows::{
     ACTIONS, BELOW, Declared, FIRST, FUNCTIONS, INPUTS, LAST, LIMIT, LOOKS, NEXT, PLACE, POSTS,
     TAKERS, WANTED_TRUE, WEIGHT,
@@ -114,27 +118,22 @@ fn keep_times(x: Rec, times: &mut [u32; 192])
     times[3 * t + LAST] = last_of(x.sort, x.six);
 }
 
-// The row of a priority, an action or a function.
-fn row_of(kind: u8) -> usize
-    requires { (5 ≤ kind) × (kind ≤ 7) }
-    ensures { (result ≡ own_row kind 0) × (result < 8) }
+// Keeps a record whose byte 2 stands in row c alone. Was there one already?
+fn keep_alone(x: Rec, c: usize, rows: &mut [u64]) -> bool
+    requires room { Room x rows.old × (c < 8) }
+    requires own { (k : ℕ) → k < 8 → kept_in (alone x) k 0 ≡ eqb c k }
+    ensures value { result ≡ bit (row rows.old c x.one) x.two }
+    ensures kept { Kept x rows.old rows.new × (length rows.new ≡ length rows.old) }
 {
-    if kind == 5 {
-        return BELOW;
-    }
-    if kind == 6 { ACTIONS } else { FUNCTIONS }
+    enter(rows, 8 * records::wide(x.one) + c, records::wide(x.two))
 }
 
-// What becomes of one record: did an earlier one say the same, and what is declared after it.
-#[derive(Clone, Copy)]
-struct Step {
-    again: bool,
-    known: Declared,
-}
-
-// Keeps record r, whose own columns are in order.
+// Keeps record r, of this kind, whose own columns are in order: what is declared after it, or None where an earlier
+// record said the same.
+#[tactic(auto, using(crate::proofs::Sound::in_range))]
 fn keep(
     x: Rec,
+    kind: Kind,
     r: usize,
     known: Declared,
     rows: &mut [u64],
@@ -143,54 +142,35 @@ fn keep(
     heads: &mut [u16; 64],
     posts: &mut [u16],
     times: &mut [u32; 192],
-) -> Step
-    requires { KeepAsks x r rows.old w.old s.old heads.old posts.old times.old }
+) -> Option<Declared>
+    requires kind_is { kind_number kind ≡ x.kind }
+    requires keep_asks { KeepAsks x r rows.old w.old s.old heads.old posts.old times.old }
     ensures { Keeps x r known result rows.old w.old s.old heads.old
         posts.old times.old rows.new w.new s.new heads.new
         posts.new times.new }
 {
-    let kind = x.kind;
-    if kind == 3 {
-        if x.sort == 3 {
-            let again = keep_post(x, r, rows, heads, posts);
-            return Step { again, known };
+    match kind {
+        Kind::Place => {
+            let p = records::wide(x.one);
+            (!rows::has_place(known, p)).then_some(rows::with_place(known, p))
         }
-        let again = keep_input(x, rows, w, s);
-        return Step { again, known };
+        Kind::Transition => {
+            keep_times(x, times);
+            let t = records::wide(x.one);
+            (!sets::has(known.transitions, t)).then_some(rows::with_transition(known, t))
+        }
+        Kind::Arc if x.sort == 3 => (!keep_post(x, r, rows, heads, posts)).then_some(known),
+        Kind::Arc => (!keep_input(x, rows, w, s)).then_some(known),
+        Kind::Condition => (!keep_condition(x, rows)).then_some(known),
+        Kind::Priority => (!keep_alone(x, BELOW, rows)).then_some(known),
+        Kind::Action => (!keep_alone(x, ACTIONS, rows)).then_some(known),
+        Kind::Function => (!keep_alone(x, FUNCTIONS, rows)).then_some(known),
     }
-    let one = records::wide(x.one);
-    if kind == 1 {
-        return Step {
-            again: rows::has_place(known, one),
-            known: rows::with_place(known, one),
-        };
-    }
-    if kind == 2 {
-        keep_times(x, times);
-        return Step {
-            again: sets::has(known.transitions, one),
-            known: rows::with_transition(known, one),
-        };
-    }
-    if kind == 4 {
-        let again = keep_condition(x, rows);
-        return Step { again, known };
-    }
-    let again = enter(rows, 8 * one + row_of(kind), records::wide(x.two));
-    Step { again, known }
 }
 
-// What the pass finds: at the first record that meets 2, 3 or 4 its number, else number 0 and at the number of records;
-// and what is declared.
-#[derive(Clone, Copy)]
-pub struct Pass {
-    pub number: u8,
-    pub at: usize,
-    pub known: Declared,
-}
-
-// Each record in order is tested for 2, 3 and 4. The rows are lent empty, with room for the numbers and the records of
-// the table, and hold all records where none has a fault.
+// Each record in order is tested for 2, 3 and 4, and the first that meets one is refused; else the answer is what is
+// declared. The rows are lent empty, with room for the numbers and the records of the table, and hold all records where
+// none has a fault.
 pub fn scan(
     t: &[u8],
     rows: &mut [u64],
@@ -199,7 +179,7 @@ pub fn scan(
     heads: &mut [u16; 64],
     posts: &mut [u16],
     times: &mut [u32; 192],
-) -> Pass
+) -> Result<Declared, Refusal>
     requires t_len_bound { length t.now ≤ 8192 }
     requires blank { Blank (table t.now) rows.old w.old s.old heads.old posts.old times.old }
     ensures { Scanned (table t.now) result rows.new w.new s.new
@@ -212,31 +192,12 @@ pub fn scan(
         high: 0,
         transitions: 0,
     };
-    let mut r = 0;
-    while r < n {
+    for r in 0..n {
         let x = records::read(t, r);
-        let f = records::fault(x, &kinds);
-        if f != 0 {
-            return Pass {
-                number: f,
-                at: r,
-                known,
-            };
-        }
-        let step = keep(x, r, known, rows, w, s, heads, posts, times);
-        if step.again {
-            return Pass {
-                number: 4,
-                at: r,
-                known,
-            };
-        }
-        known = step.known;
-        r += 1;
+        let kind = records::examine(x, r, &kinds)?;
+        known = keep(x, kind, r, known, rows, w, s, heads, posts, times).ok_or(Refusal::Twice {
+            record: r,
+        })?;
     }
-    Pass {
-        number: 0,
-        at: n,
-        known,
-    }
+    Ok(known)
 }

@@ -4,30 +4,19 @@
 
 use std::io;
 
-// A blank and one of the three sets of a cycle's record, as 16 hex digits.
-fn set(rt: &impl Print, record: &[u8], k: usize) -> io::Result<()> {
-    if record.len() == 24 {
-        if k < 3 {
-            print!(rt; " {:016x}", numbers::eight(record, 8 * k))?;
-        }
-    }
-    Ok(())
-}
-
-// The line of one finished cycle: its number, then fired, actions and functions.
+// The line of one finished cycle: its number, then fired, actions and functions, each as 16 hex digits.
 fn line(rt: &impl Print, report: &[u8], cycle: usize) -> io::Result<()> {
-    let record = engine::lookup(report, cycle);
     print!(rt; "{cycle}")?;
-    set(rt, record, 0)?;
-    set(rt, record, 1)?;
-    set(rt, record, 2)?;
+    for set in engine::lookup(report, cycle).chunks_exact(8) {
+        print!(rt; " {:016x}", numbers::eight(set, 0))?;
+    }
     println!(rt)
 }
 
 // The lines of the finished cycles, from 1 on.
 fn lines(rt: &impl Print, report: &[u8], cycles: usize) -> io::Result<()> {
-    for k in 0..cycles {
-        line(rt, report, k + 1)?;
+    for cycle in 1..=cycles {
+        line(rt, report, cycle)?;
     }
     Ok(())
 }
@@ -35,14 +24,20 @@ fn lines(rt: &impl Print, report: &[u8], cycles: usize) -> io::Result<()> {
 // Starts the net and runs it on the words; a start that refuses has the last word.
 fn play(rt: &impl Print, t: &[u8], words: &[u8]) -> io::Result<()> {
     let mut image = [0u8; 768];
-    let started = engine::start(t, &mut image);
-    if started.number != 0 {
-        return programs::end(rt, started.number, started.at, started.cycles);
+    if let Err(refusal) = engine::start(t, &mut image) {
+        return programs::refuse(rt, refusal);
     }
     let mut report = [0u8; 12288];
-    let ran = engine::run(t, &mut image, words, &mut report);
-    lines(rt, &report, ran.cycles)?;
-    programs::end(rt, ran.number, ran.at, ran.cycles)
+    match engine::run(t, &mut image, words, &mut report) {
+        Ok(cycles) => {
+            lines(rt, &report, cycles)?;
+            programs::end(rt, 0, 0, cycles)
+        }
+        Err(refusal) => {
+            lines(rt, &report, refusal.cycles())?;
+            programs::refuse(rt, refusal)
+        }
+    }
 }
 
 fn main(rt: HostRuntime) -> io::Result<()> {

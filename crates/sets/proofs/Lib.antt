@@ -2,5 +2,5 @@
 pub mod Bits
 pub mod Walk
 pub mod Some
-pub mod Members
+pub mod Taking
 pub mod Rows

@@ -2,8 +2,10 @@
 #![tactic(auto)]
 
 ghost use Rattle.std.specs.Prelude.{◌≡◌, ◌&&◌, ◌||◌, not, ℕ, ◌<◌, eqb};
-ghost use Rattle.meaning.specs.Below.{some, first};
+ghost use Rattle.meaning.specs.Below.{some, first, IsFirst};
 ghost use Rattle.meaning.specs.Bytes.{bit};
+ghost use Rattle.std.specs.Iterator.{at_most};
+ghost use Rattle.sets.specs.Walk.{Turn};
 
 // Is k in s?
 pub fn has(s: u64, k: usize) -> bool
@@ -41,11 +43,14 @@ pub fn less(s: u64, t: u64) -> u64
     s - (s & t)
 }
 
-// The lowest number in s, or 64 if there is none.
-pub fn lowest(s: u64) -> usize
-    ensures { result ≡ first 64 (bit s) }
+// The lowest number in s, if there is one.
+pub fn lowest(s: u64) -> Option<usize>
+    ensures { IsFirst 64 (bit s) result }
 {
-    u64::trailing_zeros(s) as usize
+    if s == 0 {
+        return None;
+    }
+    Some(u64::trailing_zeros(s) as usize)
 }
 
 // s less its lowest number.
@@ -53,4 +58,31 @@ pub fn rest(s: u64) -> u64
     ensures { (j : ℕ) → bit result j ≡ (bit s j && not (eqb (first 64 (bit s)) j)) }
 {
     if s == 0 { 0 } else { s & (s - 1) }
+}
+
+// The members of a set that a walk has not come to, the lowest first.
+#[derive(Drop)]
+pub struct Each {
+    pub left: u64,
+}
+
+impl Iterator for Each {
+    type Item = usize;
+
+    ghost next_gives = { λ s r t. Turn s.left r t.left };
+
+    ghost remaining = { λ s. at_most s.left };
+
+    fn next(&mut self) -> Option<usize> {
+        let k = lowest(self.left)?;
+        self.left = rest(self.left);
+        Some(k)
+    }
+}
+
+// The members of s, the lowest first.
+pub fn members(s: u64) -> Each
+    ensures { result.left ≡ s }
+{
+    Each { left: s }
 }

@@ -1,5 +1,5 @@
 -- A record of an image that is 0, bytes that are 0, and the first number in a range that passes a test.
-use Rattle.std.specs.Prelude.{Bool, true, false, List, ◌≡◌, ℕ, ◌+◌, ◌≤◌, ◌<◌, get_or}
+use Rattle.std.specs.Prelude.{Bool, true, false, List, ◌≡◌, ℕ, ◌+◌, ◌≤◌, ◌<◌, get_or, Option, MatchOption}
 use Rattle.meaning.specs.Image.{Image}
 
 -- Record k is 0.
@@ -22,3 +22,7 @@ pub record FirstFrom (p : ℕ → Bool) (from to r : ℕ) : Type 0 where
   pub within : r ≤ to
   pub before : (k : ℕ) → from ≤ k → k < r → p k ≡ false
   pub passes : r < to → p r ≡ true
+
+-- It is said as an option: the first such number, or that there is none.
+abbrev pub IsFirstFrom : (ℕ → Bool) → ℕ → ℕ → Option ℕ → Type 0
+IsFirstFrom p from to r = MatchOption r (FirstFrom p from to to) (λ k. (k < to) × FirstFrom p from to k)

@@ -1,23 +1,25 @@
 // A state image: whether it fits a table (answer 10), read into arrays, written from them, and that of a fresh net.
 #![tactic(auto)]
 
-ghost use Rattle.std.specs.Prelude.{true, ◌≡◌, ◌+◌, ◌*◌, ◌≤◌, ◌<◌, length, get_or, set, replicate};
+ghost use Rattle.std.specs.Prelude.{true, ◌≡◌, ◌+◌, ◌*◌, ◌≤◌, ◌<◌, length, get_or, set};
 ghost use Rattle.meaning.specs.Answer.{accepted};
-ghost use Rattle.meaning.specs.Below.{first};
+ghost use Rattle.meaning.specs.Below.{IsFirst};
 ghost use Rattle.meaning.specs.Defined.{check};
 ghost use Rattle.meaning.specs.Image.{image as spelled, image_bytes, fresh as fresh_net};
 ghost use Rattle.meaning.specs.Table.{table};
-ghost use Rattle.state.specs.Records.{Quiet, FirstFrom};
+ghost use Rattle.state.specs.Records.{Quiet, IsFirstFrom};
 ghost use Rattle.state.specs.Holds.{held, TokensAsks, LoadedTokens, CountersAsks, LoadedCounters};
 ghost use Rattle.state.specs.Holds.{LoadAsks, Loaded, SaveAsks};
 ghost use Rattle.state.specs.Stored.{Stored, tokens_put};
 ghost use Rattle.state.specs.Fit.{wrong_place_by, wrong_transition_by, wrong_by};
 
+use records::Kind;
 use rows::{Declared, LIMIT};
 
 // READING
 
 // The number with which record k begins.
+#[tactic(auto, using(crate::proofs::Read::columns))]
 fn number(image: &[u8], k: usize) -> u32
     requires image_len { length image.now ≡ 768 }
     requires k_bound { k < 192 }
@@ -28,15 +30,14 @@ fn number(image: &[u8], k: usize) -> u32
 }
 
 // Are the bytes from one place up to another all 0?
+#[tactic(auto, using(crate::proofs::Read::quiet_more))]
 fn quiet(bytes: &[u8], from: usize, to: usize) -> bool
-    requires { to ≤ length bytes.now }
+    requires { (from ≤ to) × (to ≤ length bytes.now) }
     ensures { result ≡ true → Quiet bytes.now from to }
 {
     let mut any = 0u8;
-    let mut i = from;
-    while i < to {
-        any = any | bytes[i];
-        i += 1;
+    for byte in &bytes[from..to] {
+        any |= *byte;
     }
     any == 0
 }
@@ -44,134 +45,128 @@ fn quiet(bytes: &[u8], from: usize, to: usize) -> bool
 // DOES IT FIT
 
 // Place p's record is wrong: a byte shown 0 is not 0, or a place that is not declared holds a token.
+#[tactic(auto, using(crate::proofs::Read::columns), unfolding(crate::specs::Fit::wrong_place_by))]
 fn wrong_place(image: &[u8], k: Declared, p: usize) -> bool
     requires image_len { length image.now ≡ 768 }
     requires p_bound { p < 128 }
     ensures { result ≡ wrong_place_by image.now k p }
 {
-    if image[4 * p + 2] != 0 {
+    if image[4 * p + 2] != 0 || image[4 * p + 3] != 0 {
         return true;
     }
-    if image[4 * p + 3] != 0 {
-        return true;
-    }
-    if number(image, p) == 0 {
-        return false;
-    }
-    !rows::has_place(k, p)
+    number(image, p) != 0 && !rows::has_place(k, p)
 }
 
 // Transition t's record is wrong: its counter is above its limit, its reset order is above 1 or it may have none, or
 // the byte shown 0 is not 0.
+#[tactic(auto, using(crate::proofs::Read::columns), unfolding(crate::specs::Fit::wrong_transition_by))]
 fn wrong_transition(image: &[u8], times: &[u32; 192], t: usize) -> bool
     requires image_len { length image.now ≡ 768 }
     requires t_bound { t < 64 }
     ensures { result ≡ wrong_transition_by image.now times.now t }
 {
     let limit = times[3 * t + LIMIT];
-    if limit < number(image, 128 + t) {
-        return true;
-    }
-    if image[512 + 4 * t + 3] != 0 {
+    if limit < number(image, 128 + t) || image[512 + 4 * t + 3] != 0 {
         return true;
     }
     let order = image[512 + 4 * t + 2];
-    if 1 < order {
-        return true;
-    }
-    if limit == 0 {
-        return order != 0;
-    }
-    false
+    1 < order || (limit == 0 && order != 0)
 }
 
-// The first place from `from` on and below `to` whose record is wrong, or `to`.
-fn first_place(image: &[u8], k: Declared, from: usize, to: usize) -> usize
+// The first place from `from` on and below `to` whose record is wrong, if there is one.
+fn first_place(image: &[u8], k: Declared, from: usize, to: usize) -> Option<usize>
     requires { (length image.now ≡ 768) × (from ≤ to) × (to ≤ 128) }
-    ensures { FirstFrom (wrong_place_by image.now k) from to result }
+    ensures { IsFirstFrom (wrong_place_by image.now k) from to result }
 {
-    let mut p = from;
-    while p < to {
+    for p in from..to {
         if wrong_place(image, k, p) {
-            return p;
+            return Some(p);
         }
-        p += 1;
     }
-    to
+    None
 }
 
-// The first transition whose record is wrong, or 64.
-fn first_transition(image: &[u8], times: &[u32; 192]) -> usize
+// The first transition whose record is wrong, if there is one.
+#[tactic(auto, using(meaning::proofs::Below::first_none))]
+fn first_transition(image: &[u8], times: &[u32; 192]) -> Option<usize>
     requires { length image.now ≡ 768 }
-    ensures { FirstFrom (wrong_transition_by image.now times.now) 0 64 result }
+    ensures { IsFirst 64 (wrong_transition_by image.now times.now) result }
 {
-    let mut t = 0;
-    while t < 64 {
+    for t in 0..64 {
         if wrong_transition(image, times, t) {
-            return t;
+            return Some(t);
         }
-        t += 1;
     }
-    64
+    None
 }
 
-// The first record of the image that does not fit, or 192. The places from n on, and the transitions, are looked at one
-// by one only where some byte of theirs is not 0.
-pub fn first_wrong(image: &[u8], k: Declared, times: &[u32; 192], n: usize) -> usize
+// The first place whose record is wrong, if there is one. The places from n on are looked at one by one only where some
+// byte of theirs is not 0.
+#[tactic(auto, using(crate::proofs::Firsts::of_places))]
+fn first_wrong_place(image: &[u8], k: Declared, n: usize) -> Option<usize>
+    requires { (length image.now ≡ 768) × (n ≤ 128) }
+    ensures { IsFirst 128 (wrong_place_by image.now k) result }
+{
+    if let Some(p) = first_place(image, k, 0, n) {
+        return Some(p);
+    }
+    if quiet(image, 4 * n, 512) {
+        return None;
+    }
+    first_place(image, k, n, 128)
+}
+
+// The first record of the image that does not fit, if there is one. The transitions too are looked at one by one only
+// where some byte of theirs is not 0.
+#[tactic(auto, using(crate::proofs::Firsts::of_records))]
+pub fn first_wrong(image: &[u8], k: Declared, times: &[u32; 192], n: usize) -> Option<usize>
     requires image_len { length image.now ≡ 768 }
     requires n_bound { n ≤ 128 }
-    ensures { result ≡ first 192 (wrong_by image.now k times.now) }
+    ensures { IsFirst 192 (wrong_by image.now k times.now) result }
 {
-    let p = first_place(image, k, 0, n);
-    if p < n {
-        return p;
-    }
-    if !quiet(image, 4 * n, 512) {
-        let q = first_place(image, k, n, 128);
-        if q < 128 {
-            return q;
-        }
+    if let Some(p) = first_wrong_place(image, k, n) {
+        return Some(p);
     }
     if quiet(image, 512, 768) {
-        return 192;
+        return None;
     }
-    128 + first_transition(image, times)
+    let t = first_transition(image, times)?;
+    Some(128 + t)
 }
 
 // READ INTO ARRAYS
 
 // Fills an array, which is lent empty, with the tokens of each place. From place n on there is none.
+#[tactic(auto, using(crate::proofs::Read::listing), unfolding(meaning::specs::Image::state))]
 fn load_tokens(image: &[u8], tokens: &mut [u32; 128], n: usize)
     requires { TokensAsks image.now tokens.old n }
     ensures { LoadedTokens image.now tokens.new }
 {
-    let mut p = 0;
-    while p < n {
+    for p in 0..n {
         tokens[p] = number(image, p);
-        p += 1;
     }
 }
 
 // Fills an array, which is lent empty, with the counter of each transition, and answers the set of the transitions with
 // a reset order. From transition n on the image is 0.
+#[tactic(auto, using(crate::proofs::Read::listing), unfolding(meaning::specs::Image::state))]
 fn load_counters(image: &[u8], counters: &mut [u32; 64], n: usize) -> u64
     requires { CountersAsks image.now counters.old n }
     ensures { LoadedCounters image.now counters.new result }
 {
     let mut orders = 0u64;
-    let mut t = 0;
-    while t < n {
+    for t in 0..n {
         counters[t] = number(image, 128 + t);
         if image[512 + 4 * t + 2] == 1 {
             orders = sets::union(orders, sets::single(t));
         }
-        t += 1;
     }
     orders
 }
 
 // Fills two arrays, which are lent empty, with the tokens and the counters of the state that an image holds, and
 // answers the set of the transitions with a reset order. From place n and from transition n on the image is 0.
+#[tactic(auto, using(rows::proofs::Few::transitions_le, rows::proofs::Few::past))]
 pub fn load(image: &[u8], tokens: &mut [u32; 128], counters: &mut [u32; 64], n: usize) -> u64
     requires { LoadAsks image.now tokens.old counters.old n }
     ensures { Loaded image.now tokens.new counters.new result }
@@ -198,16 +193,11 @@ fn save_numbers(image: &mut [u8], tokens: &[u32; 128], counters: &[u32; 64], n: 
     requires { SaveAsks image.old tokens.now counters.now n }
     ensures { image.new ≡ image_bytes (held tokens.now counters.now 0) }
 {
-    let mut p = 0;
-    while p < n {
+    for p in 0..n {
         store(image, p, tokens[p]);
-        p += 1;
     }
-    let most = rows::transitions(n);
-    let mut t = 0;
-    while t < most {
+    for t in 0..rows::transitions(n) {
         store(image, 128 + t, counters[t]);
-        t += 1;
     }
 }
 
@@ -221,30 +211,18 @@ fn order(image: &mut [u8], t: usize)
 
 // The image of a state: tokens and counters, then the reset orders one by one, as there are few. From place n and from
 // transition n on the image that is lent is 0, and the state has neither tokens nor counters there.
+#[tactic(auto, using(crate::proofs::Orders::putting))]
 pub fn save(image: &mut [u8], tokens: &[u32; 128], counters: &[u32; 64], orders: u64, n: usize)
     requires { SaveAsks image.old tokens.now counters.now n }
     ensures { image.new ≡ image_bytes (held tokens.now counters.now orders) }
 {
     save_numbers(image, tokens, counters, n);
-    let mut left = orders;
-    while left != 0 {
-        order(image, sets::lowest(left));
-        left = sets::rest(left);
+    for t in sets::members(orders) {
+        order(image, t);
     }
 }
 
 // A FRESH NET
-
-// Every byte 0.
-fn clear(image: &mut [u8])
-    ensures { image.new ≡ replicate (length image.old) 0 }
-{
-    let mut i = 0;
-    while i < image.len() {
-        image[i] = 0;
-        i += 1;
-    }
-}
 
 // The first tokens of the place that record r declares.
 fn put_tokens(t: &[u8], r: usize, image: &mut [u8])
@@ -260,13 +238,10 @@ pub fn fresh(t: &[u8], image: &mut [u8])
     requires { (length image.old ≡ 768) × (check t.now ≡ accepted 0) }
     ensures { image.new ≡ image_bytes (fresh_net (table t.now)) }
 {
-    clear(image);
-    let n = t.len() / 8;
-    let mut r = 0;
-    while r < n {
-        if t[8 * r] == 1 {
+    image.fill(0);
+    for r in 0..t.len() / 8 {
+        if t[8 * r] == Kind::Place as u8 {
             put_tokens(t, r, image);
         }
-        r += 1;
     }
 }

@@ -4,46 +4,17 @@
 
 use std::io;
 
-// A blank and eight bytes of the image, as a number of 16 hex digits.
-fn eight(rt: &impl Print, image: &[u8], k: usize) -> io::Result<()> {
-    if k < image.len() / 8 {
-        print!(rt; " {:016x}", numbers::eight(image, 8 * k))?;
-    }
-    Ok(())
-}
-
-// The whole image.
-fn eights(rt: &impl Print, image: &[u8]) -> io::Result<()> {
-    for k in 0..image.len() / 8 {
-        eight(rt, image, k)?;
-    }
-    Ok(())
-}
-
-// The line of one state: the cycle that left it, 0 for the fresh net, then the image.
+// The line of one state: the cycle that left it, 0 for the fresh net, then the image, eight bytes as 16 hex digits.
 fn state(rt: &impl Print, image: &[u8], cycle: usize) -> io::Result<()> {
     print!(rt; "{cycle}")?;
-    eights(rt, image)?;
+    for eight in image.chunks_exact(8) {
+        print!(rt; " {:016x}", numbers::eight(eight, 0))?;
+    }
     println!(rt)
 }
 
-// The word of one cycle, counted from 0, as that part of the words; an empty part where they do not hold it whole.
-fn word(words: &[u8], k: usize) -> &[u8] {
-    if k < words.len() / 8 {
-        let from = 8 * k;
-        let to = from + 8;
-        return &words[from..to];
-    }
-    &words[..0]
-}
-
-// One cycle on the image that the one before left.
-fn cycle(t: &[u8], image: &mut [u8], word: &[u8]) {
-    let mut record = [0u8; 24];
-    engine::run(t, image, word, &mut record);
-}
-
-// The states of so many cycles, from the fresh net on, a word each.
+// The states of so many cycles, from the fresh net on, a word each: each cycle runs on the image that the one before
+// left.
 fn states(
     rt: &impl Print,
     t: &[u8],
@@ -51,11 +22,12 @@ fn states(
     words: &[u8],
     cycles: usize,
 ) -> io::Result<()> {
-    engine::start(t, image);
+    engine::start(t, image).ok();
     state(rt, image, 0)?;
-    for k in 0..cycles {
-        cycle(t, image, word(words, k));
-        state(rt, image, k + 1)?;
+    for (cycle, word) in (1..=cycles).zip(words.chunks_exact(8)) {
+        let mut record = [0u8; 24];
+        engine::run(t, image, word, &mut record).ok();
+        state(rt, image, cycle)?;
     }
     Ok(())
 }
@@ -63,14 +35,20 @@ fn states(
 // Starts the net and runs it on the words, which says how many cycles it finishes; then their states.
 fn play(rt: &impl Print, t: &[u8], words: &[u8]) -> io::Result<()> {
     let mut image = [0u8; 768];
-    let started = engine::start(t, &mut image);
-    if started.number != 0 {
-        return programs::end(rt, started.number, started.at, started.cycles);
+    if let Err(refusal) = engine::start(t, &mut image) {
+        return programs::refuse(rt, refusal);
     }
     let mut report = [0u8; 12288];
-    let ran = engine::run(t, &mut image, words, &mut report);
-    states(rt, t, &mut image, words, ran.cycles)?;
-    programs::end(rt, ran.number, ran.at, ran.cycles)
+    match engine::run(t, &mut image, words, &mut report) {
+        Ok(cycles) => {
+            states(rt, t, &mut image, words, cycles)?;
+            programs::end(rt, 0, 0, cycles)
+        }
+        Err(refusal) => {
+            states(rt, t, &mut image, words, refusal.cycles())?;
+            programs::refuse(rt, refusal)
+        }
+    }
 }
 
 fn main(rt: HostRuntime) -> io::Result<()> {

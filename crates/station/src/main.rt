@@ -3,21 +3,17 @@
 // line. Where there is no image the net is started.
 #![tactic(auto)]
 
+use answers::Refusal;
 use std::io;
 use std::rt::Files;
-
-// Does this answer of run leave an image and the records of its finished cycles?
-fn leaves(number: usize) -> bool {
-    if number == 0 { true } else { number == 13 }
-}
 
 // The records of so many cycles, as that part of the report; an empty part where it does not hold them whole.
 fn finished(report: &[u8], cycles: usize) -> &[u8] {
     if cycles <= report.len() / 24 {
-        let to = 24 * cycles;
-        return &report[0..to];
+        &report[..24 * cycles]
+    } else {
+        &report[..0]
     }
-    &report[..0]
 }
 
 // The report first, and the image only behind it: without its report a call counts as not made.
@@ -28,22 +24,29 @@ fn keep(rt: &(impl Files + Print), report: &[u8], image: &[u8]) -> io::Result<()
     Ok(())
 }
 
-// One call of run from this image, and what it leaves.
+// One call of run from this image, and what it leaves: image and finished records where it is accepted, or stops at a
+// full place.
 fn call(rt: &(impl Files + Print), t: &[u8], image: &mut [u8], words: &[u8]) -> io::Result<()> {
     let mut report = [0u8; 12288];
-    let ran = engine::run(t, image, words, &mut report);
-    if leaves(ran.number) {
-        keep(rt, finished(&report, ran.cycles), image)?;
+    match engine::run(t, image, words, &mut report) {
+        Ok(cycles) => {
+            keep(rt, finished(&report, cycles), image)?;
+            programs::end(rt, 0, 0, cycles)
+        }
+        Err(refusal) => {
+            if let Refusal::Full { cycles, .. } = refusal {
+                keep(rt, finished(&report, cycles), image)?;
+            }
+            programs::refuse(rt, refusal)
+        }
     }
-    programs::end(rt, ran.number, ran.at, ran.cycles)
 }
 
 // The first call, from the image of the fresh net; a start that refuses has the last word.
 fn first(rt: &(impl Files + Print), t: &[u8], words: &[u8]) -> io::Result<()> {
     let mut image = [0u8; 768];
-    let started = engine::start(t, &mut image);
-    if started.number != 0 {
-        return programs::end(rt, started.number, started.at, started.cycles);
+    if let Err(refusal) = engine::start(t, &mut image) {
+        return programs::refuse(rt, refusal);
     }
     call(rt, t, &mut image, words)
 }

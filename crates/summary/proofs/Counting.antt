@@ -1,20 +1,20 @@
--- One turn of each loop: a transition is struck from the unknown, a fired bit is counted, a record is added, an arc
--- moves its weight.
-use mathlib.Core.Bool.{Bool, true, false, cond, not, ◌&&◌, ◌||◌, and-true as and_true_law}
-use mathlib.Core.List.{List}
+-- What the loops read of a table or a report, and one turn of each: a transition is struck from the unknown, a record's
+-- fired word is counted, an arc moves its weight; and what a summary's tests ask.
+use mathlib.Core.Bool.{Bool, true, false, cond, not, ◌&&◌, ◌||◌}
+use mathlib.Core.List.{List, [], ◌∷◌}
 use mathlib.Core.Path.{◌≡◌, refl, sym, ap, ◌∙◌}
-use Prim.Native.Nat.{ℕ, suc, ◌+◌, ◌*◌, ◌≤◌, ◌<◌}
-use native.Mathlib.Nat.{add-zero, le_trans, mul-le-mul_left, mul-le-mul_right}
+use Prim.Native.Nat.{ℕ, zero, suc, ◌+◌, ◌*◌, ◌≤◌, ◌<◌}
+use native.Mathlib.Nat.{add-zero}
 use native.Mathlib.Numerals.{add-one}
 use native.Mathlib.Omega.{arith}
 use lib.Dec.{eqb}
-use lib.ListN.{length, get_or, set}
-use lib.Seq.{get_or-set_same, get_or-set_other}
-use borrow.Author.Tests.{eqb-true, eqb-false}
-use Rattle.meaning.specs.Below.{every, sum}
-use Rattle.meaning.specs.Bytes.{bit}
+use lib.ListN.{length, get_or, set, take, drop}
+use Rattle.std.specs.List.{list_any}
+use Rattle.std.proofs.lemmas.List.Folds.{list_any_more}
+use Rattle.meaning.specs.Below.{some, every, sum, first}
+use Rattle.meaning.specs.Bytes.{number, bit}
 use Rattle.meaning.specs.Table.{Table, arc, transition}
-use Rattle.meaning.proofs.Below.{every_elim, some_same}
+use Rattle.meaning.proofs.Below.{every_elim, some_same, first_same}
 use Rattle.records.specs.declared.Rec.{Rec}
 use Rattle.records.specs.Record.{Reads}
 use Rattle.summary.specs.Day.{times_of, fired_word, strange, times}
@@ -32,43 +32,24 @@ struck_more true true b = refl
 struck_more true false b = refl
 
 -- By the set of the unknown a record is strange exactly if it is by the table.
-pub strange_same : (tb : Table) (unknown : ℕ) (report : List ℕ)
+strange_same : (tb : Table) (unknown : ℕ) (report : List ℕ)
     → ((k : ℕ) → k < 64 → bit unknown k ≡ not (transition tb k))
     → (r : ℕ) → strange_by unknown report r ≡ strange tb report r
 unfolding strange_by strange
 strange_same tb unknown report e r =
     some_same 64 _ _ (λ k l. ap (λ (b : Bool). bit (fired_word report r) k && b) (e k l))
 
--- A member of what is left is counted and left no more.
-pub one_ticked : (counts : List ℕ) (k left rest : ℕ) → length counts ≡ 65 → k < 64 → bit left k ≡ true
-    → ((j : ℕ) → bit rest j ≡ (bit left j && not (eqb k j)))
-    → (j : ℕ) → times_of (set counts (k + 1) (get_or counts (k + 1) 0 + 1)) j + cond (bit rest j) 1 0
-    ≡ times_of counts j + cond (bit left j) 1 0
-one_ticked counts k left rest long low in_left without j =
-    ap (λ (b : Bool). times_of (set counts (k + 1) (get_or counts (k + 1) 0 + 1)) j + cond b 1 0) (without j)
-    ∙ go (eqb k j) refl
-  where
-    next : k + 1 ≡ suc k
-    next = add-one k
+-- So the first strange record by the set is the first by the table.
+pub first_strange_same : (tb : Table) (unknown : ℕ) (report : List ℕ) (n : ℕ)
+    → ((k : ℕ) → k < 64 → bit unknown k ≡ not (transition tb k))
+    → first n (strange_by unknown report) ≡ first n (strange tb report)
+first_strange_same tb unknown report n e = first_same n _ _ (λ k l. strange_same tb unknown report e k)
 
-    after : ℕ → ℕ
-    after i = get_or (set counts (k + 1) (get_or counts (k + 1) 0 + 1)) i 0
-
-    go : (b : Bool) → eqb k j ≡ b
-        → after (suc j) + cond (bit left j && not b) 1 0 ≡ times_of counts j + cond (bit left j) 1 0
-    go true e =
-        let same : j ≡ k = sym (eqb-true k j e) in
-        let here : after (k + 1) ≡ get_or counts (k + 1) 0 + 1 =
-        get_or-set_same counts (k + 1) (get_or counts (k + 1) 0 + 1) 0 (omega (arith, long, low)) in
-        let there : suc j ≡ k + 1 = omega (arith, same) in
-        rw (ap (bit left) same ∙ in_left)
-        (ap (λ (i : ℕ). after i + 0) there ∙ omega (arith, here) ∙ ap (λ (i : ℕ). get_or counts i 0 + 1) (sym there))
-    go false e =
-        let other : after (suc j) ≡ times_of counts j =
-        get_or-set_other counts (k + 1) (suc j) (get_or counts (k + 1) 0 + 1) 0
-        (λ z. eqb-false k j e (omega (arith, z))) in
-        ap (λ (x : ℕ). x + cond (bit left j && true) 1 0) other
-        ∙ ap (λ (b : Bool). times_of counts j + cond b 1 0) (and_true_law (bit left j))
+-- The fired word that is read of a record.
+pub word_read : (report : List ℕ) (r read : ℕ) → read ≡ number (take 8 (drop (24 * r + 0) report))
+    → read ≡ fired_word report r
+unfolding fired_word
+word_read report r read reads = reads ∙ ap (λ (i : ℕ). number (take 8 (drop i report))) (add-zero (24 * r))
 
 -- One record more.
 pub times_more : (report : List ℕ) (n k : ℕ)
@@ -76,26 +57,22 @@ pub times_more : (report : List ℕ) (n k : ℕ)
 unfolding times sum
 times_more report n k = refl
 
--- A weight times a count.
-pub product_low : (a b : ℕ) → a ≤ 65535 → b ≤ 4294967295 → a * b ≤ 281470681677825
-product_low a b h k = le_trans (mul-le-mul_right b h) (mul-le-mul_left 65535 k)
-
--- What is added at one place.
-pub one_shifted : (moved : List ℕ) (p q v : ℕ) → p < length moved
-    → get_or (set moved p (get_or moved p 0 + v)) q 0 ≡ get_or moved q 0 + cond (eqb p q) v 0
-one_shifted moved p q v h = go (eqb p q) refl
-  where
-    go : (b : Bool) → eqb p q ≡ b → get_or (set moved p (get_or moved p 0 + v)) q 0 ≡ get_or moved q 0 + cond b v 0
-    go true e =
-        rw (sym (eqb-true p q e)) (get_or-set_same moved p (get_or moved p 0 + v) 0 h)
-    go false e = get_or-set_other moved p q (get_or moved p 0 + v) 0 (λ z. eqb-false p q e (sym z)) ∙ sym (add-zero _)
-
-pub cond_most : (b : Bool) (v m x : ℕ) → v ≤ m → x + cond b v 0 ≤ x + m
-cond_most true v m x h = omega (arith, h)
-cond_most false v m x h = omega arith
-
 -- What a record that is read moves is what the table's record moves.
 pub read_shift : (tb : Table) (r sort : ℕ) (s : List ℕ) (p : ℕ) (x : Rec) → Reads tb r x
     → cond (eqb x.kind 3 && eqb x.sort sort && eqb x.one p) (x.four * times_of s x.two) 0
     ≡ cond (arc tb sort r && eqb (tb.one r) p) (tb.four r * times_of s (tb.two r)) 0
 read_shift tb r sort s p x h = rw (h.kind, h.sort, h.one, h.four, h.two) refl
+
+-- Does one of n numbers behind the first pass?
+pub some_behind : (test : ℕ → Bool) (s : List ℕ) (n : ℕ) → length s ≡ suc n
+    → list_any test (take n (drop 1 s)) ≡ some n (λ k. test (get_or s (suc k) 0))
+unfolding some
+some_behind test [] n long = absurd (omega (arith, long))
+some_behind test (x ∷ xs) n long = front n (omega (arith, long))
+  where
+    front : (m : ℕ) → m ≤ length xs → list_any test (take m xs) ≡ some m (λ k. test (get_or xs k 0))
+    front zero h = refl
+    front (suc m) h =
+        ap (λ (i : ℕ). list_any test (take i xs)) (sym (add-one m))
+        ∙ list_any_more test xs m 0 (omega (arith, h))
+        ∙ ap (λ (b : Bool). b || test (get_or xs m 0)) (front m (omega (arith, h)))

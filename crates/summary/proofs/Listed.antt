@@ -1,12 +1,14 @@
 -- A list made of the values of f has them at their places, and a list of that length with those values is that list.
 use mathlib.Core.List.{List, [], ◌∷◌, ◌++◌}
-use mathlib.Core.Logic.{◌⊎◌, inl, inr, ⊎_elim}
-use mathlib.Core.Path.{◌≡◌, refl, sym, ap, ap₂, ◌∙◌}
-use Prim.Native.Nat.{ℕ, zero, suc, ◌<◌}
+use mathlib.Core.Logic.{◌⊎◌, ⊎_elim}
+use mathlib.Core.Path.{◌≡◌, refl, sym, ap, ap₂, subst, ◌∙◌}
+use Prim.Native.Nat.{ℕ, zero, suc, ◌+◌, ◌≤◌, ◌<◌}
 use native.Mathlib.Nat.{not-suc-le-zero}
 use native.Mathlib.Omega.{arith}
-use lib.ListN.{length, get_or, set, length-append, get_or-append}
-use lib.Seq.{ext_get_or, get_or_at, get_or-set_same, get_or-set_other}
+use lib.ListN.{length, get_or, length-append, get_or-append}
+use lib.Seq.{ext_get_or, get_or_at}
+use denote.Param.Members.{Mut, Called}
+use Rattle.std.specs.Array.{IsFromFnResult, IsFromFnResultFrom}
 use Rattle.meaning.proofs.Below.{last}
 use Rattle.summary.specs.Day.{listed}
 
@@ -32,18 +34,25 @@ module _ {A : Type 0} (f : ℕ → A) where
       ext_get_or d xs (listed n f) (long ∙ sym (length_listed n))
       (λ i l. same i (omega (arith, long, l)) ∙ sym (get_or_listed n i d (omega (arith, long, l))))
 
--- A list that is filled from the front: one more value in its place.
-pub filled_more : {A : Type 0} (f : ℕ → A) (d : A) (xs : List A) (i : ℕ) (x : A) → i < length xs → x ≡ f i
-    → ((j : ℕ) → j < i → get_or xs j d ≡ f j) → (j : ℕ) → j < suc i → get_or (set xs i x) j d ≡ f j
-filled_more f d xs i x h e before j l = go (last l)
-  where
-    go : (j ≡ i) ⊎ (j < i) → get_or (set xs i x) j d ≡ f j
-    go (inl z) =
-        ap (λ (k : ℕ). get_or (set xs i x) k d) z ∙ get_or-set_same xs i x d h ∙ e ∙ ap f (sym z)
-    go (inr k) = get_or-set_other xs i j x d (λ z. omega (arith, k, z)) ∙ before j k
-
 pub listed_same : {A : Type 0} (n : ℕ) (f g : ℕ → A) → ((i : ℕ) → i < n → f i ≡ g i) → listed n f ≡ listed n g
 unfolding listed
 listed_same {A} zero f g e = refl
 listed_same {A} (suc n) f g e =
     ap₂ (λ (xs : List A) (x : A). xs ++ x ∷ []) (listed_same n f g (λ i l. e i (omega (arith, l)))) (e n (omega arith))
+
+-- An array that is made by calls of a function, one at each number in turn, where a call changes nothing and gives the
+-- value of f.
+module _ {F A : Type 0} (g : Mut F (ℕ × Unit {0}) A) (p : F) (f : ℕ → A) (d : A) (xs : List A)
+    (gives : (i : ℕ) (x : A) (q : F) → Called g p (i, tt) x q → (q ≡ p) × (x ≡ f i)) where
+  made_from : (n i : ℕ) → IsFromFnResultFrom g p xs i n → (j : ℕ) → i ≤ j → j < i + n → get_or xs j d ≡ f j
+  made_from zero i m j h l = absurd (omega arith)
+  made_from (suc n) i (q, x, at, call, rest) j h l =
+      let (stays, is) = gives i x q call in
+      ⊎_elim (λ (e : i ≡ j). ap (λ (k : ℕ). get_or xs k d) (sym e) ∙ at.1 d ∙ is ∙ ap f e)
+      (λ (m : i < j).
+      made_from n (i + 1) (subst (λ (r : F). IsFromFnResultFrom g r xs (i + 1) n) stays rest) j (omega (arith, m))
+      (omega (arith, l)))
+      (last (omega (arith, h)))
+
+  pub made_listed : (n : ℕ) → IsFromFnResult g p xs n → xs ≡ listed n f
+  made_listed n m = listed_is f n d xs m.long (λ i l. made_from n 0 m.each i (omega arith) (omega (arith, l)))

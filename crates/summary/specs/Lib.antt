@@ -2,4 +2,5 @@
 pub mod Day
 pub mod Spoken
 pub mod Promised
+pub mod Told
 pub mod Parts

@@ -3,18 +3,8 @@ use Rattle.std.specs.Prelude.{Bool, cond, ◌&&◌, List, ◌≡◌, ℕ, ◌+�
 use Rattle.meaning.specs.Below.{some}
 use Rattle.meaning.specs.Bytes.{bit}
 use Rattle.meaning.specs.Table.{Table}
-use Rattle.meaning.specs.Answer as meaning
 use Rattle.records.specs.declared.Rec.{Rec}
 use Rattle.summary.specs.Day.{fired_word, times_of, moved}
-use Rattle.summary.specs.declared.Summary.{Summary}
-use Rattle.summary.specs.declared.Change.{Change}
-
--- The answers that the calls' structs hold. These calls do no cycle.
-abbrev pub said : Summary → meaning.Answer
-said s = meaning.refused s.number s.at
-
-abbrev pub told : Change → meaning.Answer
-told d = meaning.refused d.number d.at
 
 -- A member of a set fired in record r.
 unfoldable pub strange_by : ℕ → List ℕ → ℕ → Bool

@@ -4,13 +4,14 @@ ghost use Rattle.meaning.specs.Table.{table};
 ghost use Rattle.summary.specs.Day.{listed};
 ghost use Rattle.summary.specs.Parts.{LowArcs, MovesSo, Shifts, Shifted};
 
-use records::Rec;
+use records::{Kind, Rec};
+use std::array;
 
 // So many times a weight.
 fn product(weight: u16, times: u32) -> u64
     ensures { (result ≡ weight * times) × (result ≤ 281470681677825) }
 {
-    weight as u64 * times as u64
+    u64::from(weight) * u64::from(times)
 }
 
 // Adds what one record moves, if it is an arc of the sort.
@@ -18,15 +19,9 @@ fn shift(x: Rec, sort: u8, s: &[u32; 65], moved: &mut [u64; 128])
     requires { Shifts x moved.old }
     ensures { Shifted x sort s.now moved.old moved.new }
 {
-    if x.kind != 3 {
-        return;
+    if x.kind == Kind::Arc as u8 && x.sort == sort {
+        moved[records::wide(x.one)] += product(x.four, s[records::wide(x.two) + 1]);
     }
-    if x.sort != sort {
-        return;
-    }
-    let p = records::wide(x.one);
-    let at = records::wide(x.two) + 1;
-    moved[p] = moved[p] + product(x.four, s[at]);
 }
 
 // What the arcs of a sort move at each place when each transition fires as often as the summary says.
@@ -35,12 +30,9 @@ pub fn moves(t: &[u8], sort: u8, s: &[u32; 65]) -> [u64; 128]
     requires t_len_bound { length t.now ≤ 8192 }
     ensures { MovesSo (table t.now) sort s.now result }
 {
-    let count = t.len() / 8;
     let mut moved = [0u64; 128];
-    let mut r = 0;
-    while r < count {
+    for r in 0..t.len() / 8 {
         shift(records::read(t, r), sort, s, &mut moved);
-        r += 1;
     }
     moved
 }
@@ -59,11 +51,5 @@ pub fn differences(put: &[u64; 128], taken: &[u64; 128]) -> [i64; 128]
         × (get_or taken.now p 0 ≤ 288225978038092800) }
     ensures { result ≡ listed 128 (λ p. pos (get_or put.now p 0) -ℤ pos (get_or taken.now p 0)) }
 {
-    let mut change = [0i64; 128];
-    let mut p = 0;
-    while p < 128 {
-        change[p] = less(put[p], taken[p]);
-        p += 1;
-    }
-    change
+    array::from_fn(|p| less(put[p], taken[p]))
 }

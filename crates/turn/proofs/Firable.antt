@@ -8,6 +8,7 @@ use native.Mathlib.Omega.{arith}
 use lib.Dec.{eqb}
 use lib.ListN.{get_or}
 use borrow.Author.Tests.{eqb-true, eq-eqb, lt-ltb, not-true}
+use Rattle.std.proofs.lemmas.Grind.{common_steps}
 use Rattle.meaning.specs.Below.{some}
 use Rattle.meaning.specs.Bytes.{bit}
 use Rattle.meaning.specs.Says.{Same}
@@ -36,14 +37,10 @@ behind false b f = refl
 
 -- What is not other than wanted is as wanted, and the other way round.
 met_by : (b w : Bool) → cond b (not w) w ≡ false → beq w b ≡ true
-met_by true true e = refl
-met_by true false e = sym e
-met_by false true e = sym e
-met_by false false e = refl
+met_by b w e = grind (arith, common_steps)
 
 agrees : (b : Bool) → cond b (not b) b ≡ false
-agrees true = refl
-agrees false = refl
+agrees b = grind (arith, common_steps)
 
 module _ {bs : List ℕ} {n : ℕ} {rows : List ℕ} {w s : List (List ℕ)} {heads posts times : List ℕ} {known : Declared}
     (net : NetOf bs n rows w s heads posts times known) where
@@ -215,13 +212,4 @@ module _ {bs : List ℕ} {net : Net} {rows arcs times : List ℕ} {w s : List (L
       where
         order : (a b z i c : Bool) → ((((a && b) && not (not z)) || ((not z && (a && b)) && i)) && c)
             ≡ (a && ((b && c) && (z || i)))
-        order true true true i true = refl
-        order true true true i false = refl
-        order true true false true true = refl
-        order true true false true false = refl
-        order true true false false true = refl
-        order true true false false false = refl
-        order true false true i c = refl
-        order true false false i c = refl
-        order false b true i c = refl
-        order false b false i c = refl
+        order a b z i c = grind (arith, common_steps)

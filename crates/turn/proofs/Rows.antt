@@ -3,11 +3,12 @@
 use mathlib.Core.Bool.{Bool, true, false, cond, not, ◌&&◌, ◌||◌, and-true, and-false}
 use mathlib.Core.List.{List}
 use mathlib.Core.Path.{◌≡◌, refl, sym, ap, ap₂, ◌∙◌}
-use Prim.Native.Nat.{ℕ, zero, suc, ◌-◌, ◌%◌, ◌≤◌, ◌<◌}
+use Prim.Native.Nat.{ℕ, ◌-◌, ◌%◌, ◌≤◌, ◌<◌}
 use native.Mathlib.Omega.{arith}
 use lib.Dec.{ltb, eqb}
 use lib.ListN.{length}
-use borrow.Author.Tests.{eqb-true, eqb-false, eq-eqb, ne_eqb, ltb-false, lt-ltb, le-ltb}
+use borrow.Author.Tests.{eqb-true, eq-eqb, ltb-false, lt-ltb}
+use Rattle.std.proofs.lemmas.Grind.{common_steps}
 use Rattle.meaning.specs.Below.{some}
 use Rattle.meaning.specs.Bytes.{bit}
 use Rattle.meaning.specs.Table.{Table, table, is, basic, test}
@@ -93,11 +94,7 @@ module _ {bs : List ℕ} {n : ℕ} {rows : List ℕ} {w s : List (List ℕ)} {he
   active_bit v k p {set} e = ap (λ (z : ℕ). bit z k) e ∙ go (eqb v 0) refl
     where
       go : (b : Bool) → eqb v 0 ≡ b → bit (cond b 0 (actions rows p)) k ≡ (bit (actions rows p) k && ltb 0 v)
-      go true q =
-          bit_zero k ∙ rw (le-ltb 0 v (omega (arith, eqb-true v 0 q))) (sym (and-false (bit (actions rows p) k)))
-      go false q =
-          let some_token : ¬ (v ≡ 0) = eqb-false v 0 q in
-          rw (lt-ltb 0 v (omega (arith, some_token))) (sym (and-true (bit (actions rows p) k)))
+      go b q = grind (arith, common_steps, bit_zero k)
 
   -- FUNCTIONS
 
@@ -109,8 +106,7 @@ module _ {bs : List ℕ} {n : ℕ} {rows : List ℕ} {w s : List (List ℕ)} {he
       (λ r h e. transition_low (of_kind tb r 7 (sound.shown r h) (eqb-true (tb.kind r) 7 e)) refl) F
     where
       turned : (a b : Bool) → (a && b) ≡ (b && a)
-      turned true b = sym (and-true b)
-      turned false b = sym (and-false b)
+      turned a b = grind (arith, common_steps)
 
   -- STARVED TRANSITIONS
 
@@ -119,16 +115,7 @@ module _ {bs : List ℕ} {n : ℕ} {rows : List ℕ} {w s : List (List ℕ)} {he
   asking r = go (is tb 3 r) (tb.sort r)
     where
       go : (a : Bool) (k : ℕ) → ((a && ltb k 3) && not (eqb k 2)) ≡ ((a && eqb k 0) || (a && eqb k 1))
-      go true zero = refl
-      go true (suc zero) = refl
-      go true (suc (suc zero)) = refl
-      go true (suc (suc (suc k))) =
-          rw (
-            le-ltb (suc (suc (suc k))) 3 (omega arith),
-            ne_eqb (suc (suc (suc k))) 0 (λ z. omega (arith, z)),
-            ne_eqb (suc (suc (suc k))) 1 (λ z. omega (arith, z)),
-          )
-      go false k = refl
+      go a k = grind (arith, common_steps)
 
   pub starved_is : (m : ℕ → ℕ) (F : ℕ → Bool) (taken : ℕ → ℕ) → ((p : ℕ) → p < 128 → taken p ≡ withdrawn tb F p)
       → (t : ℕ) → t < 64
@@ -145,9 +132,7 @@ module _ {bs : List ℕ} {n : ℕ} {rows : List ℕ} {w s : List (List ℕ)} {he
       g p = ltb 0 (taken p) && lacks (cell w p t) (cell s p t) (m p - taken p)
 
       front : (a b c : Bool) → (a && (b && c)) ≡ (b && (a && c))
-      front true b c = refl
-      front false true c = refl
-      front false false c = refl
+      front a b c = grind (arith, common_steps)
 
       -- A test that fails leaves nothing of an arc, and one that passes has the arc's weight and sort in its cells.
       none : (r : ℕ) → input tb r ≡ false → (basic tb r || test tb r) ≡ false

@@ -1,12 +1,12 @@
 -- What the rows say of a transition's times is the meaning's: its counter after the falling edge, and when it is in
 -- time.
-use mathlib.Core.Bool.{Bool, true, false, cond, not, ◌&&◌, ◌||◌}
+use mathlib.Core.Bool.{Bool, cond, not, ◌&&◌, ◌||◌}
 use mathlib.Core.List.{List}
-use mathlib.Core.Path.{◌≡◌, refl, sym, ap}
+use mathlib.Core.Path.{◌≡◌, refl, ap}
 use Prim.Native.Nat.{ℕ, suc, ◌≤◌, ◌<◌}
 use native.Mathlib.Omega.{arith}
 use lib.Dec.{leb, ltb, eqb}
-use borrow.Author.Tests.{eqb-false, lt-leb, le-leb, ltb-true, ltb-false}
+use Rattle.std.proofs.lemmas.Grind.{common_steps}
 use Rattle.meaning.specs.Bytes.{bit}
 use Rattle.meaning.specs.Table.{Table, transition, timing, a_of, b_of}
 use Rattle.meaning.specs.Image.{State}
@@ -34,16 +34,7 @@ module _ {tb : Table} (sound : SoundTable tb) (t : ℕ) {times : List ℕ} (file
 
       rises : ltb v (cond (eqb (timing tb t) 1) (suc (b_of tb t)) (a_of tb t))
           ≡ cond (eqb (timing tb t) 1) (leb v (b_of tb t)) (ltb v (a_of tb t))
-      rises = up (eqb (timing tb t) 1)
-        where
-          up : (y : Bool) → ltb v (cond y (suc (b_of tb t)) (a_of tb t))
-              ≡ cond y (leb v (b_of tb t)) (ltb v (a_of tb t))
-          up true = past (ltb v (suc (b_of tb t))) refl
-            where
-              past : (z : Bool) → ltb v (suc (b_of tb t)) ≡ z → z ≡ leb v (b_of tb t)
-              past true q = sym (le-leb v (b_of tb t) (omega (arith, ltb-true v (suc (b_of tb t)) q)))
-              past false q = sym (lt-leb v (b_of tb t) (omega (arith, ltb-false v (suc (b_of tb t)) q)))
-          up false = refl
+      rises = grind (arith, common_steps)
 
       go : (x y : Bool) → eqb (timing tb t) 0 ≡ x → transition tb t ≡ y
           → cond (not x)
@@ -52,9 +43,7 @@ module _ {tb : Table} (sound : SoundTable tb) (t : ℕ) {times : List ℕ} (file
           ≡ cond x v
           (cond (enabled tb s.tokens t) (cond (s.order t) 1
           (cond (cond (eqb (timing tb t) 1) (leb v (b_of tb t)) (ltb v (a_of tb t))) (suc v) v)) 0)
-      go true y e f = refl
-      go false true e f = rw rises
-      go false false e f = absurd (eqb-false (timing tb t) 0 e (untimed sound t f))
+      go x y e f = grind (arith, common_steps, rises, untimed sound t)
 
   -- A counter that fits two bytes still does.
   pub count_low : (orders on timed c : ℕ) → c ≤ 65535 → cond (bit timed t) (next_count orders on times t c) c ≤ 65535
@@ -63,11 +52,7 @@ module _ {tb : Table} (sound : SoundTable tb) (t : ℕ) {times : List ℕ} (file
       go (bit timed t) (bit on t) (bit orders t) (ltb c (limit_of times t)) refl
     where
       go : (a b d e : Bool) → ltb c (limit_of times t) ≡ e → cond a (cond b (cond d 1 (cond e (suc c) c)) 0) c ≤ 65535
-      go true true true e q = omega arith
-      go true true false true q = omega (arith, ltb-true c (limit_of times t) q, limit_low sound t filed l)
-      go true true false false q = small
-      go true false d e q = omega arith
-      go false b d e q = small
+      go a b d e q = grind (arith, common_steps, limit_low sound t filed l)
 
   -- To be untimed or ready is to be in time.
   pub in_time_is : (c : ℕ) → c ≤ 65535 → (eqb (timing tb t) 0 || in_span (first_of times t) (last_of times t) c)
@@ -78,5 +63,4 @@ module _ {tb : Table} (sound : SoundTable tb) (t : ℕ) {times : List ℕ} (file
       (ap (λ (b : Bool). eqb (timing tb t) 0 || (leb (a_of tb t) c && b)) (go (eqb (timing tb t) 2)))
     where
       go : (y : Bool) → leb c (cond y 4294967295 (b_of tb t)) ≡ (y || leb c (b_of tb t))
-      go true = le-leb c 4294967295 (omega (arith, small))
-      go false = refl
+      go y = grind (arith, common_steps)

@@ -7,13 +7,15 @@ use native.Mathlib.Omega.{arith}
 use lib.Dec.{ltb, eqb}
 use lib.ListN.{length, get_or}
 use borrow.Author.Tests.{eqb-true, ltb-true, ltb-false}
+use Rattle.std.proofs.lemmas.Grind.{common_steps}
+use Rattle.std.proofs.Common.{None}
 use Rattle.meaning.specs.Below.{some}
 use Rattle.meaning.specs.Bytes.{bit, bits}
 use Rattle.meaning.specs.Table.{Table, table, total, is, basic, post, transition, ceiling}
 use Rattle.meaning.specs.Image.{State}
 use Rattle.meaning.specs.Cycle.{enabled, active, counted, falling, firable, withdrawn, added, fired, rising, marked}
 use Rattle.meaning.specs.Cycle.{reset, executed, overfull}
-use Rattle.meaning.proofs.Bool.{and_left, and_right, not_both}
+use Rattle.meaning.proofs.Bool.{and_left, and_right}
 use Rattle.meaning.proofs.Below.{some_same, first_same, first_before, sum_zero}
 use Rattle.meaning.proofs.Reflect.{not_true_false}
 use Rattle.meaning.proofs.Fired.{rounds_out}
@@ -86,11 +88,8 @@ module _ {bs : List ℕ} {net : Net} {rows arcs times : List ℕ} {w s : List (L
       omega (arith, laid.net_of.below w.0 w.1, w.3, laid.sizes.rows_are)
 
   pub weights_of : (p t : ℕ) → p < 128 → t < 64 → bit (takers rows p) t ≡ true → p < length w
-  weights_of p t h l e = under (ltb p (8 * net.eights)) refl
-    where
-      under : (b : Bool) → ltb p (8 * net.eights) ≡ b → p < length w
-      under true q = omega (arith, ltb-true p (8 * net.eights) q, laid.sizes.weights_are)
-      under false q = not_both e (no_bit laid.net_of 1 p t (omega arith) (ltb-false p (8 * net.eights) q) h l)
+  weights_of p t h l e =
+      grind (arith, common_steps, no_bit laid.net_of 1 p t (omega arith), laid.sizes.weights_are)
 
   -- What tallying asks for of the chains.
   pub chains : (c : Chains posts) × ((t : ℕ) → t < 64 → Leads c.arc (get_or heads t 0))
@@ -256,7 +255,10 @@ module _ {bs : List ℕ} {net : Net} {rows arcs times : List ℕ} {w s : List (L
                 told.tallied.functions_are k
                 ∙ functions_is laid.net_of (bit f) k l ∙ ap (λ (F : ℕ → Bool). executed tb F k) one_set);
             full_is =
-                settles.full_is ∙ first_same 128 _ _ (λ p l. ap (ltb 65535) (settles.tokens_are p l ∙ token_is p l));
+                rw (← first_same 128 (λ p. ltb 65535 (get_or tokens' p 0))
+                (overfull tb (rising tb (falling tb h) (fires tb h word)))
+                (λ p l. ap (ltb 65535) (settles.tokens_are p l ∙ token_is p l)))
+                settles.full_is;
             tokens_are = λ p l. settles.tokens_are p l ∙ token_is p l;
             counters_are = told.counts;
             orders_are = order_is orders' after;
@@ -278,7 +280,7 @@ module _ {bs : List ℕ} {net : Net} {rows arcs times : List ℕ} {w s : List (L
               ∙ actions_is laid.net_of (λ p. get_or tokens p 0) k l
 
       -- All is poised for the next cycle where no place is full.
-      pub poised : length counters' ≡ 64 → ((t : ℕ) → t < 64 → get_or counters' t 0 ≤ 65535) → 128 ≤ x.full
+      pub poised : length counters' ≡ 64 → ((t : ℕ) → t < 64 → get_or counters' t 0 ≤ 65535) → x.full ≡ None
           → Poised rows w s tokens' counters' kept' levels' taken' put'
       poised size small none =
           record {
@@ -288,7 +290,8 @@ module _ {bs : List ℕ} {net : Net} {rows arcs times : List ℕ} {w s : List (L
             put_size = settles.put_size;
             tokens_low = λ p l.
                 ltb-false 65535 (get_or tokens' p 0)
-                (first_before 128 (λ p. ltb 65535 (get_or tokens' p 0)) p (omega (arith, l, none, settles.full_is)));
+                (first_before 128 (λ p. ltb 65535 (get_or tokens' p 0)) p
+                (omega (arith, l, rw none at settles.full_is)));
             counters_low = small;
             levels_hold = settles.levels_hold;
             none_taken = settles.no_taken;

@@ -1,6 +1,6 @@
 -- The rows of an accepted table, and one cycle over them.
-use Rattle.std.specs.Prelude.{Bool, true, not, List, ◌≡◌, ℕ, ◌*◌, ◌≤◌, ◌<◌, eqb, length, get_or}
-use Rattle.meaning.specs.Below.{first, within}
+use Rattle.std.specs.Prelude.{Bool, true, not, List, ◌≡◌, ℕ, ◌*◌, ◌≤◌, ◌<◌, eqb, length, get_or, None}
+use Rattle.meaning.specs.Below.{IsFirst, within}
 use Rattle.meaning.specs.Bytes.{bit, bits}
 use Rattle.meaning.specs.Table.{Table, table, transition}
 use Rattle.meaning.specs.Image.{State}
@@ -54,7 +54,7 @@ pub record Stepped (tb : Table) (h : State) (word : ℕ) (r : Outcome) (tokens c
   pub fired_is : r.fired ≡ bits (fires tb h word)
   pub actions_are : r.actions ≡ bits (active tb h.tokens)
   pub functions_are : r.functions ≡ bits (executed tb (fires tb h word))
-  pub full_is : r.full ≡ first 128 (overfull tb (rising tb (falling tb h) (fires tb h word)))
+  pub full_is : IsFirst 128 (overfull tb (rising tb (falling tb h) (fires tb h word))) r.full
   pub tokens_are : (p : ℕ) → p < 128 → get_or tokens p 0 ≡ (rising tb (falling tb h) (fires tb h word)).tokens p
   pub counters_are : (t : ℕ) → t < 64 → get_or counters t 0 ≡ (rising tb (falling tb h) (fires tb h word)).counter t
   pub orders_are : (t : ℕ) → t < 64 → bit r.orders t ≡ (rising tb (falling tb h) (fires tb h word)).order t
@@ -65,5 +65,5 @@ pub record Steps (net : Net) (tokens counters : List ℕ) (orders word : ℕ) (r
     : Type 0 where
   pub stepped : (bs : List ℕ) → Laid bs net rows arcs times w s heads posts
       → Stepped (table bs) (held tokens counters orders) word r tokens' counters'
-  pub poised : 128 ≤ r.full → Poised rows w s tokens' counters' kept' levels' taken' put'
+  pub poised : r.full ≡ None → Poised rows w s tokens' counters' kept' levels' taken' put'
   pub sizes : (length tokens' ≡ 128) × (length counters' ≡ 64)

@@ -14,14 +14,14 @@ pub struct Net {
     pub lower: u64,
 }
 
-// What a cycle comes to: the three sets of its record, the lowest full place (128 if none), and the reset orders after
-// it.
+// What a cycle comes to: the three sets of its record, the lowest full place, if there is one, and the reset orders
+// after it.
 #[derive(Clone, Copy)]
 pub struct Outcome {
     pub fired: u64,
     pub actions: u64,
     pub functions: u64,
-    pub full: usize,
+    pub full: Option<usize>,
     pub orders: u64,
 }
 

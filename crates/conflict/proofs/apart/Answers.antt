@@ -1,42 +1,40 @@
--- `apart` passes the places by until one tells the two apart.
-use mathlib.Core.Bool.{Bool}
-use mathlib.Core.Path.{◌≡◌, sym, ◌∙◌}
-use native.Mathlib.Nat.{not-suc-le-zero}
+-- `apart` asks the places one after the other, until one tells the two apart.
+use mathlib.Core.Bool.{Bool, true, false}
+use mathlib.Core.Path.{◌≡◌, refl, sym}
+use Prim.Native.Nat.{ℕ, ◌<◌}
+use native.Mathlib.Nat.{zero-add}
 use native.Mathlib.Omega.{arith}
-use borrow.Author.Count.{below_more}
+use lib.ListN.{length}
+use Rattle.std.proofs.Common.{rules}
+use Rattle.std.specs.List.{range_with_len, AllWithin, HoldsAt}
+use Rattle.std.specs.Bool.{MatchBool}
+use Rattle.std.proofs.lemmas.Iterator.{YieldsList-from_range, cases_from_any}
+use Rattle.std.proofs.lemmas.List.FromFn.{length-range_with_len, get_or-range_with_len}
+use Rattle.meaning.specs.Below.{some}
 use Rattle.meaning.proofs.Below.{some_intro, none_intro}
 use Rattle.conflict.specs.Settled.{apart_in}
 use Rattle.conflict.proofs.apart.Goals as goal
 
--- What the answer is, the test is.
-says : {x y z : Bool} → x ≡ y → x ≡ z → y ≡ z
-says e f = sym e ∙ f
-
-pub loop-p-init : goal.loop-p-init
-loop-p-init c =
-    let there = c.requires.2 in
-    (omega arith, λ q h. absurd (not-suc-le-zero h), there.sets_in, there.weights_in, there.sorts_in)
-
-pub returns-then-apart_at : goal.returns-then-apart_at
-returns-then-apart_at c =
-    let at = c.loop-p in
-    let a = c.args in
+-- What is asked of the numbers below n, one after the other, is whether one of them passes.
+asked : (n : ℕ) (p : ℕ → Bool) (r : Bool)
+    → MatchBool r
+    ((k : ℕ) × (k < length (range_with_len 0 n)) × HoldsAt (λ x. p x ≡ true) (range_with_len 0 n) k)
+    (AllWithin (λ x. p x ≡ false) (range_with_len 0 n) 0 (length (range_with_len 0 n)))
+    → r ≡ some n p
+asked n p true w =
+    let low : w.0 < n = rw length-range_with_len at w.1 in
+    sym (some_intro n p w.0 low (rw (get_or-range_with_len 0 n w.0 0 low, zero-add w.0) at (w.2 0)))
+asked n p false f =
     sym
-    (some_intro a.n (apart_in a.rows.now a.w.now a.s.now a.i a.j) at.p (omega arith)
-    (says c.apart_at.ensures c.if-apart_at.true))
-
-pub loop-p-preserved : goal.loop-p-preserved
-loop-p-preserved c =
-    let at = c.loop-p in (
-      omega arith,
-      below_more _ _ at.invariant.1
-          (says c.apart_at.ensures c.if-apart_at.false),
-      at.invariant.2,
-      at.invariant.3,
-      at.invariant.4,
-    )
+    (none_intro n p
+    (λ k h. rw (get_or-range_with_len 0 n k 0 h, zero-add k) at (f k 0 (omega arith) (rw length-range_with_len h))))
 
 pub returns : goal.returns
 returns c =
-    let at = c.loop-p in
-    sym (none_intro _ _ (λ q h. at.invariant.1 q (omega arith)))
+    let a = c.args in
+    let p : ℕ → Bool = apart_in a.rows.now a.w.now a.s.now a.i a.j in
+    asked a.n p _
+    (cases_from_any _ _ _ (λ x. p x ≡ true) (λ x. p x ≡ false) c.any.ensures.ran
+    (YieldsList-from_range 0 a.n a.n refl (omega arith))
+    (λ x q k. search rules)
+    (λ x q k. (search rules, search rules)))

@@ -12,7 +12,7 @@ use Rattle.sets.proofs.Bits.{bit_zero}
 use Rattle.sets.proofs.Rows.{all_zero}
 use Rattle.rows.specs.Rows.{takers}
 use Rattle.sets.proofs.Some.{some_short}
-use Rattle.conflict.proofs.Takers.{one_place}
+use Rattle.std.proofs.lemmas.Bool.Decides.{nat_tests}
 use Rattle.conflict.proofs.conflicts.Goals as goal
 
 pub loop-p-init : goal.loop-p-init
@@ -21,43 +21,27 @@ loop-p-init c =
     let pre = c.requires in
     let pairs = c.args.pairs.now in
     let size : length pairs ≡ 64 = ap length pre.1 ∙ length-replicate {A = ℕ} 64 0 in (
-      omega arith,
-      pre.0,
       size,
       λ i j h l.
           ap (λ (x : ℕ). bit x j) (all_zero pairs (pre.1 ∙ ap (λ (x : ℕ). replicate x 0) (sym size)) i) ∙ bit_zero j
           ∙ sym (and-false (ltb i j)),
-      pre.0.few,
-      pre.0.there,
     )
 
 pub loop-p-preserved : goal.loop-p-preserved
 unfolding some
 loop-p-preserved c =
-    let at = c.loop-p in
-    let rows = c.args.rows.now in
-    let paired = c.pair_up.ensures in (
-      omega arith,
-      at.invariant.1,
-      paired.size,
-      λ i j h l.
-          paired.holds i j h l
-          ∙ one_place _ (ltb i j) (some at.p (λ p. bit (takers rows p) i && bit (takers rows p) j)) _
-          (at.invariant.3 i j h l)
-          ∙ rw (add-one at.p),
-      at.invariant.4,
-      at.invariant.5,
-    )
+    let paired = c.pair_up.ensures in
+    (paired.size, λ i j h l. rw add-one (grind (arith, nat_tests, paired.holds i j h l, c.loop-p.invariant.1 i j h l)))
 
 pub returns : goal.returns
 returns c =
     let at = c.loop-p in
     let rows = c.args.rows.now in
     record {
-      size = at.invariant.2;
+      size = at.invariant.0;
       holds = λ i j h l.
-          at.invariant.3 i j h l
+          at.invariant.1 i j h l
           ∙ ap (λ b. ltb i j && b)
           (some_short at.p 128 (λ p. bit (takers rows p) i && bit (takers rows p) j) (omega arith)
-          (λ p past m. rw (at.invariant.1.no_taker p i (omega arith) m h)));
+          (λ p past m. rw (c.requires.0.no_taker p i (omega arith) m h)));
     }

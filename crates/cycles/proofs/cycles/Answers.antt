@@ -5,11 +5,8 @@ use native.Mathlib.Omega.{arith}
 use Rattle.state.proofs.Past.{blank_past}
 use Rattle.state.proofs.Read.{empty_row}
 use Rattle.turn.proofs.Rows.{no_bit}
-use Rattle.cycles.proofs.Turns.{out_length, fitting, begins, idle, finished, bursts, turned}
+use Rattle.cycles.proofs.Turns.{fitting, begins, idle, finished, bursts, turned}
 use Rattle.cycles.proofs.cycles.Goals as goal
-
-pub overflow_mul-n : goal.overflow_mul-n
-overflow_mul-n c = omega (arith, c.requires.of.laid.net_of.few)
 
 pub load-orders-requires : goal.load-orders-requires
 load-orders-requires c =
@@ -25,8 +22,7 @@ load-orders-requires c =
 
 pub level-requires : goal.level-requires
 level-requires c =
-    let loaded = c in
-    let load = loaded.load-orders.ensures in
+    let load = c.load-orders.ensures in
     let of = c.requires.of in
     let net = of.laid.net_of in
     record {
@@ -61,41 +57,15 @@ loop-i-init c =
           };
     }
 
--- There are at most 512 words, and the report keeps its length.
-pub overflow_mul-i : goal.overflow_mul-i
-overflow_mul-i c = omega (arith, c.loop-i.invariant.within, c.requires.of.few)
-
-pub eight-word-requires : goal.eight-word-requires
-eight-word-requires c = omega (arith, c.loop-i-test.true, c.requires.of.enough)
-
-pub step-r-requires : goal.step-r-requires
-step-r-requires c =
-    record { bs = c.requires.bs; laid = c.requires.of.laid; poised = c.loop-i.invariant.poised }
-
-pub returns-then-full-lt128 : goal.returns-then-full-lt128
-returns-then-full-lt128 c =
+pub returns-in-Some : goal.returns-in-Some
+returns-in-Some c =
     record {
-      done = λ bs of e. absurd (omega (arith, e));
-      broke = λ bs of e. (
-        refl,
+      comes = λ bs of. (
         c.loop-i-test.true,
         bursts of (c.loop-i.invariant.at bs of) c.loop-i-test.true c.eight-word.ensures
-            (c.step-r.ensures.stepped bs of.laid) c.if-full-lt128.true,
+            (c.step-r.ensures.stepped bs of.laid) c.in-Some.is,
       );
     }
-
-pub overflow_mul-i-in-loop-i : goal.overflow_mul-i-in-loop-i
-overflow_mul-i-in-loop-i c = omega (arith, c.loop-i.invariant.within, c.requires.of.few)
-
-pub write-requires : goal.write-requires
-write-requires c =
-    let asks = c.requires in
-    let same =
-    out_length (c.loop-i.invariant.at asks.bs asks.of) (omega (arith, c.loop-i.invariant.within, asks.of.room)) in
-    omega (arith, c.loop-i-test.true, same, asks.of.room)
-
-pub overflow_add-i : goal.overflow_add-i
-overflow_add-i c = omega (arith, c.loop-i.invariant.within, c.requires.of.few)
 
 pub loop-i-preserved : goal.loop-i-preserved
 loop-i-preserved c =
@@ -104,15 +74,12 @@ loop-i-preserved c =
       at = λ bs of.
           rw add-one
           (turned of (c.loop-i.invariant.at bs of) c.loop-i-test.true c.eight-word.ensures
-          (c.step-r.ensures.stepped bs of.laid) c.if-full-lt128.false c.write.ensures);
-      poised = c.step-r.ensures.poised c.if-full-lt128.false;
+          (c.step-r.ensures.stepped bs of.laid) c.in_default.is c.write.ensures);
+      poised = c.step-r.ensures.poised c.in_default.is;
     }
 
 pub returns : goal.returns
 returns c =
     let at = c.loop-i in
     let all : at.i ≡ c.args.count = omega (arith, c.loop-i-test.false, at.invariant.within) in
-    record {
-      done = λ bs of e. finished of (rw all at (at.invariant.at bs of));
-      broke = λ bs of e. absurd (e refl);
-    }
+    record { comes = λ bs of. finished of (rw all at (at.invariant.at bs of)) }

@@ -1,4 +1,3 @@
-use Prim.Native.Nat.{◌-◌}
 use Rattle.cycles.proofs.Turns.{Turned}
 use Rattle.cycles.proofs.cycles.Given as goal
 
@@ -7,7 +6,3 @@ invariant-loop-i l =
     Turned l.net l.image l.words l.count l.initial.report l.rows l.arcs l.times l.w l.s l.heads l.posts l.i l.tokens
     l.counters l.orders l.report l.kept l.levels
     l.taken l.put
-
-abbrev pub decreases-loop-i : goal.decreases-loop-i
-decreases-loop-i l =
-    l.count - l.i

@@ -3,7 +3,7 @@
 use mathlib.Core.Path.{refl}
 use native.Mathlib.Omega.{arith}
 use Rattle.cycles.proofs.Turns.{save_asks}
-use Rattle.cycles.proofs.Laying.{lay_asks, cycles_of}
+use Rattle.cycles.proofs.Laying.{lay_asks, all_of, refused, again_of}
 use Rattle.cycles.proofs.Again.{all_again, at_once, again, all_done, no_words}
 use Rattle.cycles.proofs.play.Goals as goal
 
@@ -15,87 +15,47 @@ lay-net-requires c =
     let of = c.requires.of in
     (lay_asks of.net_of (omega (arith, of.enough, of.sizes.rows_are)), refl)
 
--- So many words can be done, into a report of that length, by whatever table the rows are of.
-pub cycles-first-requires : goal.cycles-first-requires
-cycles-first-requires c =
-    let asks = c.requires in
-    record {
-      bs = asks.bs;
-      of = cycles_of asks.of c.lay-net.ensures _ _ (omega arith) refl;
-      no_tokens = refl;
-      no_counters = refl;
-    }
-
--- The net's numbers are few.
-pub overflow_mul-net : goal.overflow_mul-net
-overflow_mul-net c =
-    let of = c.requires.of in
-    omega (arith, (cycles_of of c.lay-net.ensures 0 c.args.report.now (omega arith) refl).laid.net_of.few)
-
 -- What the first run comes to: all is done, or a cycle is refused.
 pub save-requires : goal.save-requires
 save-requires c =
-    let asks = c.requires in
-    let runs = cycles_of asks.of c.lay-net.ensures _ c.args.report.now (omega arith) refl in
-    save_asks runs (c.cycles-first.ensures.done asks.bs runs c.if-first-eq0.true)
+    let runs = all_of c.requires.of c.lay-net.ensures in
+    save_asks runs (c.in-Ok.ensures.comes _ runs)
 
-pub returns-then-first-eq0 : goal.returns-then-first-eq0
-returns-then-first-eq0 c =
+pub returns-in-Ok : goal.returns-in-Ok
+returns-in-Ok c =
     record {
       ends = λ bs of.
-          all_done c.if-count-eq0.false
-          (c.cycles-first.ensures.done bs (cycles_of of c.lay-net.ensures _ _ (omega arith) refl) c.if-first-eq0.true)
-          c.save.ensures;
+          all_done c.if-count-eq0.false (c.in-Ok.ensures.comes bs (all_of of c.lay-net.ensures)) c.save.ensures;
     }
 
--- The cycles before the refused one are done again. What the second run comes to: none is refused again, and all is
--- done.
-pub cycles-last-requires : goal.cycles-last-requires
-cycles-last-requires c =
-    let asks = c.requires in
-    let broke =
-    c.cycles-first.ensures.broke asks.bs (cycles_of asks.of c.lay-net.ensures _ _ (omega arith) refl)
-    c.if-first-eq0.false in
-    record {
-      bs = asks.bs;
-      of = cycles_of asks.of c.lay-net.ensures _ _ (omega (arith, broke.1)) c.report-1.given;
-      no_tokens = refl;
-      no_counters = refl;
-    }
-
-pub overflow_mul-net-then-done-ne0 : goal.overflow_mul-net-then-done-ne0
-overflow_mul-net-then-done-ne0 c =
+pub unwrap-requires : goal.unwrap-requires
+unwrap-requires c =
     let of = c.requires.of in
-    omega (arith, (cycles_of of c.lay-net.ensures 0 c.args.report.now (omega arith) refl).laid.net_of.few)
+    let lays = c.lay-net.ensures in
+    let runs = again_of of lays c.in-Err.ensures c.cycles-first.auto.report in
+    (all_again (refused of lays c.in-Err.ensures).1 c.cycles-last.ensures runs).0
 
 pub save-requires-then-done-ne0 : goal.save-requires-then-done-ne0
 save-requires-then-done-ne0 c =
-    let asks = c.requires in
-    let broke =
-    c.cycles-first.ensures.broke asks.bs (cycles_of asks.of c.lay-net.ensures _ _ (omega arith) refl)
-    c.if-first-eq0.false in
-    let runs = cycles_of asks.of c.lay-net.ensures _ _ (omega (arith, broke.1)) c.report-1.given in
-    save_asks runs (c.cycles-last.ensures.done asks.bs runs (all_again broke.2 c.cycles-last.ensures runs))
+    let of = c.requires.of in
+    let lays = c.lay-net.ensures in
+    let runs = again_of of lays c.in-Err.ensures c.cycles-first.auto.report in
+    let last = all_again (refused of lays c.in-Err.ensures).1 c.cycles-last.ensures runs in
+    save_asks runs (last.1 _ c.unwrap.ensures)
 
 pub returns-then-done-ne0 : goal.returns-then-done-ne0
 returns-then-done-ne0 c =
     record {
       ends = λ bs of.
-          let broke =
-          c.cycles-first.ensures.broke bs (cycles_of of c.lay-net.ensures _ _ (omega arith) refl) c.if-first-eq0.false
-          in
-          let runs = cycles_of of c.lay-net.ensures _ _ (omega (arith, broke.1)) c.report-1.given in
-          again broke.2 broke.0 c.if-done-ne0.true
-          (c.cycles-last.ensures.done bs runs (all_again broke.2 c.cycles-last.ensures runs))
-          c.save-then-done-ne0.ensures;
+          let lays = c.lay-net.ensures in
+          let broke = (refused of lays c.in-Err.ensures).1 in
+          let runs = again_of of lays c.in-Err.ensures c.cycles-first.auto.report in
+          let last = all_again broke c.cycles-last.ensures runs in
+          again broke c.if-done-ne0.true (last.1 _ c.unwrap.ensures) c.save-then-done-ne0.ensures;
     }
 
 pub returns-else-done-ne0 : goal.returns-else-done-ne0
 returns-else-done-ne0 c =
     record {
-      ends = λ bs of.
-          let broke =
-          c.cycles-first.ensures.broke bs (cycles_of of c.lay-net.ensures _ _ (omega arith) refl) c.if-first-eq0.false
-          in
-          at_once broke.2 broke.0 c.if-done-ne0.false;
+      ends = λ bs of. at_once (refused of c.lay-net.ensures c.in-Err.ensures).1 c.if-done-ne0.false;
     }

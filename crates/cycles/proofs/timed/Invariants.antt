@@ -1,13 +1,10 @@
 use mathlib.Core.Bool.{not, ◌&&◌}
 use mathlib.Core.Path.{◌≡◌}
-use Prim.Native.Nat.{ℕ, ◌-◌, ◌≤◌}
+use Prim.Native.Nat.{ℕ}
 use lib.Dec.{ltb, eqb}
 use Rattle.meaning.specs.Bytes.{bit}
 use Rattle.rows.specs.Rows.{limit_of}
 use Rattle.cycles.proofs.timed.Given as goal
 
 abbrev pub invariant-loop-t : goal.invariant-loop-t
-invariant-loop-t l = (l.t ≤ l.m) × ((j : ℕ) → bit l.r j ≡ (ltb j l.t && not (eqb (limit_of l.times j) 0)))
-
-abbrev pub decreases-loop-t : goal.decreases-loop-t
-decreases-loop-t l = l.m - l.t
+invariant-loop-t l = (j : ℕ) → bit l.r j ≡ (ltb j l.t && not (eqb (limit_of l.times j) 0))

@@ -1,7 +1,7 @@
 -- What is looked at and in the word is what is wanted true exactly if no condition is other than wanted, as what is
 -- wanted true is looked at.
-use mathlib.Core.Bool.{Bool, true, false, cond, not, ◌&&◌}
-use mathlib.Core.Path.{◌≡◌, refl, sym, ap, ◌∙◌}
+use mathlib.Core.Bool.{Bool, true, cond, not, ◌&&◌}
+use mathlib.Core.Path.{◌≡◌, ap}
 use Prim.Native.Nat.{ℕ, ◌^◌, ◌<◌}
 use native.Mathlib.Omega.{arith}
 use lib.Bits.{bit_and, and_lt}
@@ -23,29 +23,14 @@ wanted_in looks wanted word hl ht hw looked =
     same_test (eqb (bit_and looks word) wanted) (as_asked looks wanted word)
     (λ e.
     let same : bit_and looks word ≡ wanted = eqb-true (bit_and looks word) wanted e in
-    ap not (none_intro 64 amiss (λ k l. right (bit looks k) (bit word k) _
-    (sym (bit-and looks word k) ∙ ap (λ (x : ℕ). bit x k) same))))
+    ap not (none_intro 64 amiss (λ k l. grind (arith, bit-and looks word k, ap (λ (x : ℕ). bit x k) same))))
     (λ e.
     eq-eqb (bit_and looks word) wanted
     (same_set (bit_and looks word) wanted (and_lt 64 looks word hl hw) ht
-    (λ k l. bit-and looks word k ∙ both (bit looks k) (bit word k) (bit wanted k) (looked k l)
-    (none_elim 64 amiss (not-true _ e) k l))))
+    (λ k l. grind (arith, bit-and looks word k, looked k l, none_elim 64 amiss (not-true _ e) k l))))
   where
     amiss : ℕ → Bool
     amiss k = bit looks k && cond (bit wanted k) (not (bit word k)) (bit word k)
-
-    right : (a w t : Bool) → (a && w) ≡ t → (a && cond t (not w) w) ≡ false
-    right true true t e = rw (← e)
-    right true false t e = rw (← e)
-    right false w t e = refl
-
-    both : (a w t : Bool) → (t ≡ true → a ≡ true) → (a && cond t (not w) w) ≡ false → (a && w) ≡ t
-    both true true true f e = refl
-    both true true false f e = e
-    both true false true f e = sym e
-    both true false false f e = refl
-    both false w true f e = f refl
-    both false w false f e = refl
 
 pub returns : goal.returns
 returns c =

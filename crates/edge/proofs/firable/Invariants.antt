@@ -1,10 +1,9 @@
+use lib.Bits.{bit_and}
 use Rattle.edge.specs.Edges.{wanted_in}
 use Rattle.edge.proofs.Asking.{Sifted}
 use Rattle.edge.proofs.firable.Given as goal
 
-abbrev pub invariant-loop-left : goal.invariant-loop-left
-invariant-loop-left l =
-    Sifted (wanted_in l.rows l.word) l.conditional l.initial.able l.initial.left l.able l.left
-
-abbrev pub decreases-loop-left : goal.decreases-loop-left
-decreases-loop-left l = l.left
+abbrev pub invariant-loop-t : goal.invariant-loop-t
+invariant-loop-t l =
+    Sifted (wanted_in l.rows l.word) l.conditional l.initial.able (bit_and l.initial.able l.conditional) l.able
+    l.t-iterator.left

@@ -1,6 +1,5 @@
 -- With nothing taken the answer is yes; else t is stopped at a place of the low word, of the high word, or not at all.
 use mathlib.Core.Path.{sym}
-use native.Mathlib.Omega.{arith}
 use Rattle.firing.specs.Fired.{left_enabled}
 use Rattle.firing.proofs.Rounds.{spared}
 use Rattle.firing.proofs.fires.Goals as goal
@@ -16,13 +15,3 @@ pub returns : goal.returns
 unfolding left_enabled
 returns c =
     rw (← c.stopped_in.ensures, c.if-stopped_in.false, ← c.stopped_in-2.ensures)
-
-pub stopped_in-requires : goal.stopped_in-requires
-stopped_in-requires c =
-    let pre = c.requires in
-    (omega arith, pre.0, pre.1.low_in _ pre.0)
-
-pub stopped_in-requires-2 : goal.stopped_in-requires-2
-stopped_in-requires-2 c =
-    let pre = c.requires in
-    (omega arith, pre.0, pre.1.high_in _ pre.0)

@@ -9,10 +9,7 @@ use Rattle.firing.proofs.one_round.Given as goal
 abbrev pub fires_now : ℕ → ℕ → List ℕ → List ℕ → List ℕ → List (List ℕ) → List (List ℕ) → ℕ → Bool
 fires_now left out m rows arcs w s t = not (waits_for arcs left t) && keeps m rows arcs w s out t
 
-abbrev pub invariant-loop-todo : goal.invariant-loop-todo
-invariant-loop-todo l =
-    Walked l.left l.out (waits_for l.arcs l.left) (fires_now l.left l.out l.tokens l.rows l.arcs l.w l.s) l.todo
-    l.keep l.more
-
-abbrev pub decreases-loop-todo : goal.decreases-loop-todo
-decreases-loop-todo l = l.todo
+abbrev pub invariant-loop-t : goal.invariant-loop-t
+invariant-loop-t l =
+    Walked l.left l.out (waits_for l.arcs l.left) (fires_now l.left l.out l.tokens l.rows l.arcs l.w l.s)
+    l.t-iterator.left l.keep l.more

@@ -1,13 +1,11 @@
--- The records are asked where the rows show an unknown; where they do not, the answer is the number of records.
-use mathlib.Core.Path.{◌∙◌}
-use Rattle.meaning.specs.Table.{table}
+-- The records are asked where the rows show an unknown; where they do not, there is none.
 use Rattle.judge.specs.Judged.{unknown_first}
 use Rattle.judge.proofs.first_unknown.Goals as goal
 
 pub returns-then-any_unknown : goal.returns-then-any_unknown
 unfolding unknown_first
-returns-then-any_unknown c = c.first_unknown.ensures ∙ rw (← c.any_unknown.ensures, c.if-any_unknown.true)
+returns-then-any_unknown c = rw (← c.any_unknown.ensures, c.if-any_unknown.true) c.first_unknown.ensures
 
 pub returns : goal.returns
-unfolding unknown_first table
+unfolding unknown_first
 returns c = rw (← c.any_unknown.ensures, c.if-any_unknown.false)

@@ -1,14 +1,12 @@
--- The stages one after the other: each answers where its search stops, and hands on where it comes to its end.
-use mathlib.Core.Bool.{false}
+-- The stages one after the other: each answers where its search finds one, and hands on where it finds none.
 use mathlib.Core.List.{List}
-use mathlib.Core.Path.{◌≡◌, refl, sym, ◌∙◌}
-use Prim.Native.Nat.{ℕ, ◌/◌, ◌≤◌, ◌<◌}
+use mathlib.Core.Path.{◌≡◌, refl, ◌∙◌}
+use Prim.Native.Nat.{ℕ}
 use native.Mathlib.Omega.{arith}
-use lib.ListN.{length}
+use Rattle.std.proofs.lemmas.Result.{err_from_is_err_and}
 use Rattle.meaning.specs.Below.{first}
 use Rattle.meaning.specs.Bytes.{bit}
 use Rattle.meaning.specs.Table.{table}
-use Rattle.meaning.specs.Defined.{unknown}
 use Rattle.rows.specs.declared.Declared.{Declared}
 use Rattle.rows.specs.Rows.{below}
 use Rattle.named.specs.Named.{isolated_in}
@@ -16,7 +14,7 @@ use Rattle.named.proofs.Says.{quiet}
 use Rattle.closure.specs.Closure.{Closes}
 use Rattle.closure.proofs.Priority.{low_kept}
 use Rattle.judge.specs.Judged.{unknown_first, none_of}
-use Rattle.judge.proofs.Stages.{from_6, from_7, from_8, from_9, Left}
+use Rattle.judge.proofs.Stages.{from_7, from_8, from_9, Left}
 use Rattle.judge.proofs.Answers.{few_bytes, refusal, Faultless, whole, rows_there, sorts_there}
 use Rattle.judge.proofs.Answers.{verdict_2, no_fault, verdict_5, none_unknown, past_5}
 use Rattle.judge.proofs.Answers.{verdict_6, past_6, verdict_7, past_7}
@@ -27,144 +25,112 @@ use Rattle.judge.proofs.judge.Goals as goal
 -- WHAT IS KNOWN BEHIND THE STAGES
 
 module _ {bs : List ℕ} {n : ℕ} {known : Declared} {rows : List ℕ} {w s : List (List ℕ)} {heads posts times : List ℕ}
-    (fine : Faultless bs n known rows w s heads posts times) {u : ℕ}
-    (search_5 : u ≡ unknown_first (table bs) rows known n) (end_5 : length bs / 8 ≤ u) where
-  -- Behind 5 no record names an unknown.
-  declared : (r : ℕ) → r < (table bs).records → unknown (table bs) r ≡ false
-  unfolding table
-  declared = none_unknown fine search_5 end_5
+    (fine : Faultless bs n known rows w s heads posts times)
+    (none_5 : unknown_first (table bs) rows known n ≡ (table bs).records) where
+  left_7 : first 2 (none_of known) ≡ 2 → Left bs (from_7 bs)
+  left_7 none_6 = past_6 fine (past_5 fine none_5) none_6
 
-  left_6 : Left bs (from_6 bs)
-  unfolding table
-  left_6 = past_5 fine search_5 end_5
+  module _ (none_6 : first 2 (none_of known) ≡ 2) (none_7 : first 192 (isolated_in rows known) ≡ 192) where
+    left_8 : Left bs (from_8 bs)
+    left_8 = past_7 fine (left_7 none_6) none_7
 
-  module _ {k : ℕ} (search_6 : k ≡ first 2 (none_of known)) (end_6 : 2 ≤ k) where
-    left_7 : Left bs (from_7 bs)
-    left_7 = past_6 fine left_6 search_6 end_6
+    left_9 : {rows' : List ℕ} → Closes rows rows' → first 64 (λ t. bit (below rows' t) t) ≡ 64 → Left bs (from_9 bs)
+    left_9 closes none_8 = past_8 fine closes left_8 none_8
 
-    module _ {i : ℕ} (search_7 : i ≡ first 192 (isolated_in rows known)) (end_7 : 192 ≤ i) where
-      left_8 : Left bs (from_8 bs)
-      left_8 = past_7 fine left_7 search_7 end_7
+-- THE WAYS OUT
 
-      left_9 : {rows' : List ℕ} → Closes rows rows' → {t : ℕ} → t ≡ first 64 (λ t. bit (below rows' t) t) → 64 ≤ t
-          → Left bs (from_9 bs)
-      left_9 closes search_8 end_8 = past_8 fine closes left_8 search_8 end_8
+pub returns-in_err-known : goal.returns-in_err-known
+returns-in_err-known c =
+    let gone = err_from_is_err_and c.from_residual.result c.from_residual.ensures.1 in
+    rw (gone.1, gone.2) (refusal (verdict_2 _ c.requires.right_length c.in_err-known.ensures))
 
--- THE CALLS AND THE WAYS OUT
+pub returns-in-Some : goal.returns-in-Some
+returns-in-Some c =
+    let fine = no_fault _ c.requires.right_length c.requires.judge_asks c.in_ok-known.ensures in
+    refusal (verdict_5 fine c.in-Some.ensures)
 
-pub scan-pass-requires : goal.scan-pass-requires
-scan-pass-requires c =
-    record { t_len_bound = few_bytes _ c.requires.right_length; blank = c.requires.judge_asks.blank }
+pub returns-in-Some-first_none : goal.returns-in-Some-first_none
+returns-in-Some-first_none c =
+    let fine = no_fault _ c.requires.right_length c.requires.judge_asks c.in_ok-known.ensures in
+    let found = c.in-Some-first_none.ensures in
+    refusal (found.1 ∙ verdict_6 fine (past_5 fine c.in_default.ensures) found.0)
 
-pub returns-then-pass-ne0 : goal.returns-then-pass-ne0
-returns-then-pass-ne0 c =
-    let bad = c.if-pass-ne0.true in
-    refusal (λ z. bad (sym c.wide.ensures ∙ z))
-    (rw c.wide.ensures (verdict_2 _ c.requires.right_length c.scan-pass.ensures bad))
+pub returns-in-Some-first_isolated : goal.returns-in-Some-first_isolated
+returns-in-Some-first_isolated c =
+    let fine = no_fault _ c.requires.right_length c.requires.judge_asks c.in_ok-known.ensures in
+    refusal
+    (verdict_7 fine (left_7 fine c.in_default.ensures c.in_default-first_none.ensures)
+    c.in-Some-first_isolated.ensures)
 
-pub first_unknown-unknown-requires : goal.first_unknown-unknown-requires
-first_unknown-unknown-requires c = omega (arith, rows_there c.requires.judge_asks, c.scan-pass.auto.rows)
-
-pub returns-then-unknown-t : goal.returns-then-unknown-t
-unfolding table
-returns-then-unknown-t c =
-    let asks = c.requires.judge_asks in
-    let fine = no_fault _ c.requires.right_length c.scan-pass.ensures asks.few asks.roomy c.if-pass-ne0.false in
-    refusal (λ z. omega (arith, z)) (verdict_5 fine c.first_unknown-unknown.ensures c.if-unknown-t.true)
-
-pub returns-then-none-lt2 : goal.returns-then-none-lt2
-returns-then-none-lt2 c =
-    let asks = c.requires.judge_asks in
-    let fine = no_fault _ c.requires.right_length c.scan-pass.ensures asks.few asks.roomy c.if-pass-ne0.false in
-    refusal (λ z. omega (arith, z))
-    (verdict_6 fine (left_6 fine c.first_unknown-unknown.ensures c.if-unknown-t.false) c.first_none-none.ensures
-    c.if-none-lt2.true)
-
-pub first_isolated-isolated-requires : goal.first_isolated-isolated-requires
-first_isolated-isolated-requires c =
-    let asks = c.requires.judge_asks in
-    let fine = no_fault _ c.requires.right_length c.scan-pass.ensures asks.few asks.roomy c.if-pass-ne0.false in
-    (quiet (whole fine), omega (arith, rows_there asks, c.scan-pass.auto.rows))
-
-pub returns-then-isolated-lt192 : goal.returns-then-isolated-lt192
-returns-then-isolated-lt192 c =
-    let asks = c.requires.judge_asks in
-    let fine = no_fault _ c.requires.right_length c.scan-pass.ensures asks.few asks.roomy c.if-pass-ne0.false in
-    refusal (λ z. omega (arith, z))
-    (verdict_7 fine
-    (left_7 fine c.first_unknown-unknown.ensures c.if-unknown-t.false c.first_none-none.ensures c.if-none-lt2.false)
-    c.first_isolated-isolated.ensures c.if-isolated-lt192.true)
-
-pub close-requires : goal.close-requires
-close-requires c =
-    let asks = c.requires.judge_asks in
-    let fine = no_fault _ c.requires.right_length c.scan-pass.ensures asks.few asks.roomy c.if-pass-ne0.false in
-    low_pairs fine (declared fine c.first_unknown-unknown.ensures c.if-unknown-t.false) c.transitions-m.ensures
-    (omega (arith, rows_there asks, c.scan-pass.auto.rows))
-
-pub circle-circle-requires : goal.circle-circle-requires
-circle-circle-requires c =
-    let asks = c.requires.judge_asks in
-    let fine = no_fault _ c.requires.right_length c.scan-pass.ensures asks.few asks.roomy c.if-pass-ne0.false in
-    low_kept
-    (low_pairs fine (declared fine c.first_unknown-unknown.ensures c.if-unknown-t.false) c.transitions-m.ensures
-    (omega (arith, rows_there asks, c.scan-pass.auto.rows)))
-    c.close.ensures
-
-pub returns-then-circle-lt64 : goal.returns-then-circle-lt64
-returns-then-circle-lt64 c =
-    let asks = c.requires.judge_asks in
-    let fine = no_fault _ c.requires.right_length c.scan-pass.ensures asks.few asks.roomy c.if-pass-ne0.false in
-    refusal (λ z. omega (arith, z))
+pub returns-in-Some-circle : goal.returns-in-Some-circle
+returns-in-Some-circle c =
+    let fine = no_fault _ c.requires.right_length c.requires.judge_asks c.in_ok-known.ensures in
+    refusal
     (verdict_8 fine c.close.ensures
-    (left_8 fine c.first_unknown-unknown.ensures c.if-unknown-t.false c.first_none-none.ensures c.if-none-lt2.false
-    c.first_isolated-isolated.ensures c.if-isolated-lt192.false)
-    c.circle-circle.ensures c.if-circle-lt64.true)
+    (left_8 fine c.in_default.ensures c.in_default-first_none.ensures c.in_default-first_isolated.ensures)
+    c.in-Some-circle.ensures)
 
-pub conflicts-requires : goal.conflicts-requires
-conflicts-requires c =
-    let asks = c.requires.judge_asks in
-    let fine = no_fault _ c.requires.right_length c.scan-pass.ensures asks.few asks.roomy c.if-pass-ne0.false in (
-      takerless fine c.close.ensures (declared fine c.first_unknown-unknown.ensures c.if-unknown-t.false)
-          (rw c.close.ensures.size (omega (arith, rows_there asks, c.scan-pass.auto.rows))),
-      refl,
-    )
-
-pub least-unsettled-requires : goal.least-unsettled-requires
-least-unsettled-requires c =
-    let asks = c.requires.judge_asks in
-    let fine = no_fault _ c.requires.right_length c.scan-pass.ensures asks.few asks.roomy c.if-pass-ne0.false in
-    least_asks fine c.close.ensures (declared fine c.first_unknown-unknown.ensures c.if-unknown-t.false)
-    c.conflicts.ensures (rw c.close.ensures.size (omega (arith, rows_there asks, c.scan-pass.auto.rows)))
-    (omega (arith, asks.enough, c.scan-pass.auto.w)) (omega (arith, sorts_there asks, c.scan-pass.auto.s))
-
-pub returns-then-unsettled-lt4096 : goal.returns-then-unsettled-lt4096
-returns-then-unsettled-lt4096 c =
-    let asks = c.requires.judge_asks in
-    let fine = no_fault _ c.requires.right_length c.scan-pass.ensures asks.few asks.roomy c.if-pass-ne0.false in
-    let known = declared fine c.first_unknown-unknown.ensures c.if-unknown-t.false in
+pub returns-in-Some-least : goal.returns-in-Some-least
+returns-in-Some-least c =
+    let fine = no_fault _ c.requires.right_length c.requires.judge_asks c.in_ok-known.ensures in
     let left =
-    left_9 fine c.first_unknown-unknown.ensures c.if-unknown-t.false c.first_none-none.ensures c.if-none-lt2.false
-    c.first_isolated-isolated.ensures c.if-isolated-lt192.false c.close.ensures c.circle-circle.ensures
-    c.if-circle-lt64.false in
-    refusal (λ z. omega (arith, z))
-    (verdict_9 fine c.close.ensures known left c.conflicts.ensures c.least-unsettled.ensures
-    c.if-unsettled-lt4096.true)
+    left_9 fine c.in_default.ensures c.in_default-first_none.ensures c.in_default-first_isolated.ensures
+    c.close.ensures c.in_default-circle.ensures in
+    let pair = c.in-Some-least.pair in
+    refusal
+    (verdict_9 fine c.close.ensures (none_unknown fine c.in_default.ensures) left c.conflicts.ensures
+    (omega (arith, pair.low.0, pair.low.1)) c.in-Some-least.ensures)
 
 pub returns : goal.returns
 returns c =
-    let asks = c.requires.judge_asks in
-    let fine = no_fault _ c.requires.right_length c.scan-pass.ensures asks.few asks.roomy c.if-pass-ne0.false in
-    let known = declared fine c.first_unknown-unknown.ensures c.if-unknown-t.false in
+    let fine = no_fault _ c.requires.right_length c.requires.judge_asks c.in_ok-known.ensures in
+    let declared = none_unknown fine c.in_default.ensures in
     let left =
-    left_9 fine c.first_unknown-unknown.ensures c.if-unknown-t.false c.first_none-none.ensures c.if-none-lt2.false
-    c.first_isolated-isolated.ensures c.if-isolated-lt192.false c.close.ensures c.circle-circle.ensures
-    c.if-circle-lt64.false in
-    let conflicting = c.conflicts.ensures in
-    let searched = c.least-unsettled.ensures in
-    let end = c.if-unsettled-lt4096.false in
+    left_9 fine c.in_default.ensures c.in_default-first_none.ensures c.in_default-first_isolated.ensures
+    c.close.ensures c.in_default-circle.ensures in
+    let none = c.in_default-least.ensures in
     record {
-      answer = accepted_is fine c.close.ensures known left conflicting searched end;
-      net_of = λ z. net_of fine c.close.ensures known left conflicting searched end;
-      lengths = λ z. c.scan-pass.ensures.lengths c.if-pass-ne0.false;
+      answer = accepted_is fine c.close.ensures declared left c.conflicts.ensures none;
+      net_of = net_of fine c.close.ensures declared left c.conflicts.ensures none;
+      lengths = c.in_ok-known.ensures.lengths;
     }
+
+-- THE CALLS
+
+pub scan-requires-clause-t_len_bound : goal.scan-requires-clause-t_len_bound
+scan-requires-clause-t_len_bound c = few_bytes _ c.requires.right_length
+
+pub first_isolated-requires : goal.first_isolated-requires
+first_isolated-requires c =
+    let fine = no_fault _ c.requires.right_length c.requires.judge_asks c.in_ok-known.ensures in
+    (quiet (whole fine), omega (arith, rows_there c.requires.judge_asks, c.scan.auto.rows))
+
+pub close-requires : goal.close-requires
+close-requires c =
+    let fine = no_fault _ c.requires.right_length c.requires.judge_asks c.in_ok-known.ensures in
+    low_pairs fine (none_unknown fine c.in_default.ensures) c.transitions-m.ensures
+    (omega (arith, rows_there c.requires.judge_asks, c.scan.auto.rows))
+
+pub circle-requires : goal.circle-requires
+circle-requires c =
+    let fine = no_fault _ c.requires.right_length c.requires.judge_asks c.in_ok-known.ensures in
+    low_kept
+    (low_pairs fine (none_unknown fine c.in_default.ensures) c.transitions-m.ensures
+    (omega (arith, rows_there c.requires.judge_asks, c.scan.auto.rows)))
+    c.close.ensures
+
+pub conflicts-requires : goal.conflicts-requires
+conflicts-requires c =
+    let fine = no_fault _ c.requires.right_length c.requires.judge_asks c.in_ok-known.ensures in (
+      takerless fine c.close.ensures (none_unknown fine c.in_default.ensures)
+          (rw c.close.ensures.size (omega (arith, rows_there c.requires.judge_asks, c.scan.auto.rows))),
+      refl,
+    )
+
+pub least-requires : goal.least-requires
+least-requires c =
+    let asks = c.requires.judge_asks in
+    let fine = no_fault _ c.requires.right_length asks c.in_ok-known.ensures in
+    least_asks fine c.close.ensures (none_unknown fine c.in_default.ensures) c.conflicts.ensures
+    (rw c.close.ensures.size (omega (arith, rows_there asks, c.scan.auto.rows)))
+    (omega (arith, asks.enough, c.scan.auto.w)) (omega (arith, sorts_there asks, c.scan.auto.s))

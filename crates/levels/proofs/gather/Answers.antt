@@ -3,7 +3,6 @@ use mathlib.Core.Bool.{◌||◌}
 use mathlib.Core.Path.{◌≡◌, ◌∙◌}
 use Prim.Native.Nat.{ℕ, ◌+◌}
 use native.Mathlib.Numerals.{add-one}
-use native.Mathlib.Omega.{arith}
 use lib.ListN.{get_or}
 use Rattle.meaning.specs.Below.{some}
 use Rattle.meaning.specs.Bytes.{bit}
@@ -18,15 +17,12 @@ one_more f t p r r' e joins = joins ∙ rw (e, add-one p)
 
 pub loop-p-init : goal.loop-p-init
 unfolding some
-loop-p-init c = (omega arith, bit_zero, bit_zero)
+loop-p-init c = (bit_zero, bit_zero)
 
 pub loop-p-preserved : goal.loop-p-preserved
 loop-p-preserved c =
     let at = c.loop-p in
-    let a = c.args in (
-      omega arith,
-      λ t. one_more (λ q. get_or a.kept.now q 0) t at.p at.held c.union-held.result (at.invariant.1 t)
-          (c.union-held.ensures t),
-      λ k. one_more (λ q. get_or a.kept.now (128 + q) 0) k at.p at.actions c.union-actions.result (at.invariant.2 k)
-          (c.union-actions.ensures k),
+    let kept = c.args.kept.now in (
+      λ t. one_more (λ q. get_or kept q 0) t at.p _ _ (at.invariant.0 t) (c.union-held.ensures t),
+      λ k. one_more (λ q. get_or kept (128 + q) 0) k at.p _ _ (at.invariant.1 k) (c.union-actions.ensures k),
     )

@@ -1,7 +1,7 @@
 use mathlib.Core.Bool.{true, false, ◌&&◌, ◌||◌}
 use mathlib.Core.List.{List}
 use mathlib.Core.Path.{◌≡◌}
-use Prim.Native.Nat.{ℕ, ◌^◌, ◌≤◌, ◌<◌}
+use Prim.Native.Nat.{ℕ, ◌≤◌}
 use lib.ListN.{get_or}
 use Rattle.meaning.specs.Bytes.{bit}
 use Rattle.levels.specs.declared.Level.{Level}
@@ -11,7 +11,6 @@ use Rattle.levels.proofs.level_of.Given as goal
 
 -- The level so far, with these arcs left to ask.
 pub record SoFar (tokens arcs : ℕ) (w s : List ℕ) (x : Level) (left : ℕ) : Type 0 where
-  pub word : left < 2 ^ 64
   pub roof : x.upto ≤ 2147483647
   pub low : x.from ≤ tokens
   pub high : tokens ≤ x.upto
@@ -23,8 +22,5 @@ pub record SoFar (tokens arcs : ℕ) (w s : List ℕ) (x : Level) (left : ℕ) :
       ≡ (bit arcs t && lacks_of w s tokens t)
   pub sides : (t : ℕ) → bit left t ≡ false → bit arcs t ≡ true → KeepsSide tokens (get_or w t 0) x.from x.upto
 
-abbrev pub invariant-loop-left : goal.invariant-loop-left
-invariant-loop-left l = SoFar l.tokens l.arcs l.w l.s l.x l.left
-
-abbrev pub decreases-loop-left : goal.decreases-loop-left
-decreases-loop-left l = l.left
+abbrev pub invariant-loop-t : goal.invariant-loop-t
+invariant-loop-t l = SoFar l.tokens l.arcs l.w l.s l.x l.t-iterator.left

@@ -10,8 +10,8 @@ use Rattle.marking.proofs.Chain.{given_none, given_arc, one_given}
 use Rattle.marking.proofs.give.Goals as goal
 use Rattle.marking.proofs.give.Invariants.{Giving}
 
-pub loop-link-init : goal.loop-link-init
-loop-link-init c =
+pub loop-k-init : goal.loop-k-init
+loop-k-init c =
     let pre = c.requires in
     rw c.count-link.ensures record {
       chains = pre.chains;
@@ -21,18 +21,17 @@ loop-link-init c =
       room = pre.room;
     }
 
--- The link leads to an arc: its three numbers are there, its place is one of the 128, and the chain goes down.
-record Here (posts put : List ℕ) (link : ℕ) : Type 0 where
-  next : link ≡ suc (link - 1)
-  there : 3 * (link - 1) + 3 ≤ length posts
-  place : place_of posts (link - 1) < 128
-  down : next_of posts (link - 1) ≤ link - 1
-  room : get_or put (place_of posts (link - 1)) 0 + weight_of posts (link - 1) < 4294967296
+-- The link leads to arc k: its three numbers are there, its place is one of the 128, and the chain goes down.
+record Here (posts put : List ℕ) (link k : ℕ) : Type 0 where
+  next : link ≡ suc k
+  there : 3 * k + 3 ≤ length posts
+  place : place_of posts k < 128
+  down : next_of posts k ≤ k
+  room : get_or put (place_of posts k) 0 + weight_of posts k < 4294967296
 
-here : {first : ℕ} {posts put₀ put : List ℕ} {link : ℕ} → Giving first posts put₀ put link → ¬ (link ≡ 0)
-    → Here posts put link
-here {first} {posts} {put₀} {put} {link} inv some =
-    let k : ℕ = link - 1 in
+here : {first : ℕ} {posts put₀ put : List ℕ} {link k : ℕ} → Giving first posts put₀ put link
+    → (1 ≤ link) × (k ≡ link - 1) → Here posts put link k
+here {first} {posts} {put₀} {put} {link} {k} inv some =
     let next : link ≡ suc k = omega (arith, some) in
     let is = inv.leads k next in
     let place = inv.chains.place k is in
@@ -50,70 +49,37 @@ here {first} {posts} {put₀} {put} {link} inv some =
     }
 
 pub overflow_mul-k : goal.overflow_mul-k
-overflow_mul-k c = omega (arith, here c.loop-link.invariant c.loop-link-test.true)
+overflow_mul-k c = omega (arith, here c.loop-k.invariant c.in-Some.ensures)
 
 pub overflow_add-k : goal.overflow_add-k
-overflow_add-k c = omega (arith, here c.loop-link.invariant c.loop-link-test.true)
+overflow_add-k c = omega (arith, here c.loop-k.invariant c.in-Some.ensures)
 
 pub offset_bounds-posts-k : goal.offset_bounds-posts-k
-offset_bounds-posts-k c = omega (arith, here c.loop-link.invariant c.loop-link-test.true)
+offset_bounds-posts-k c = omega (arith, here c.loop-k.invariant c.in-Some.ensures)
 
 pub bounds-posts-k : goal.bounds-posts-k
-bounds-posts-k c = omega (arith, here c.loop-link.invariant c.loop-link-test.true)
-
-pub bounds-put-p : goal.bounds-put-p
-bounds-put-p c = omega (arith, c.count-p.ensures, here c.loop-link.invariant c.loop-link-test.true)
-
-pub overflow_mul-k-in-loop-link : goal.overflow_mul-k-in-loop-link
-overflow_mul-k-in-loop-link c = omega (arith, here c.loop-link.invariant c.loop-link-test.true)
-
-pub overflow_add-k-in-loop-link : goal.overflow_add-k-in-loop-link
-overflow_add-k-in-loop-link c = omega (arith, here c.loop-link.invariant c.loop-link-test.true)
-
-pub offset_bounds-posts-k-in-loop-link : goal.offset_bounds-posts-k-in-loop-link
-offset_bounds-posts-k-in-loop-link c = omega (arith, here c.loop-link.invariant c.loop-link-test.true)
-
-pub bounds-posts-k-in-loop-link : goal.bounds-posts-k-in-loop-link
-bounds-posts-k-in-loop-link c = omega (arith, here c.loop-link.invariant c.loop-link-test.true)
+bounds-posts-k c = omega (arith, here c.loop-k.invariant c.in-Some.ensures)
 
 pub overflow_add-put : goal.overflow_add-put
 overflow_add-put c =
     omega (
       arith,
       c.wide.ensures.0,
-      ap (λ (p : ℕ). get_or c.loop-link.put p 0) c.count-p.ensures,
-      here c.loop-link.invariant c.loop-link-test.true,
+      ap (λ (p : ℕ). get_or c.loop-k.put p 0) c.count-p.ensures,
+      here c.loop-k.invariant c.in-Some.ensures,
     )
 
-pub bounds-put-p-in-loop-link : goal.bounds-put-p-in-loop-link
-bounds-put-p-in-loop-link c = omega (arith, c.count-p.ensures, here c.loop-link.invariant c.loop-link-test.true)
-
-pub overflow_mul-k-in-loop-link-2 : goal.overflow_mul-k-in-loop-link-2
-overflow_mul-k-in-loop-link-2 c = omega (arith, here c.loop-link.invariant c.loop-link-test.true)
-
-pub overflow_add-k-in-loop-link-2 : goal.overflow_add-k-in-loop-link-2
-overflow_add-k-in-loop-link-2 c = omega (arith, here c.loop-link.invariant c.loop-link-test.true)
-
-pub offset_bounds-posts-k-in-loop-link-2 : goal.offset_bounds-posts-k-in-loop-link-2
-offset_bounds-posts-k-in-loop-link-2 c = omega (arith, here c.loop-link.invariant c.loop-link-test.true)
-
-pub bounds-posts-k-in-loop-link-2 : goal.bounds-posts-k-in-loop-link-2
-bounds-posts-k-in-loop-link-2 c = omega (arith, here c.loop-link.invariant c.loop-link-test.true)
-
-pub loop-link-smaller : goal.loop-link-smaller
-loop-link-smaller c = omega (arith, c.count-link-in-loop-link.ensures, here c.loop-link.invariant c.loop-link-test.true)
-
-pub loop-link-preserved : goal.loop-link-preserved
-loop-link-preserved c =
-    let at = c.loop-link in
+pub loop-k-preserved : goal.loop-k-preserved
+loop-k-preserved c =
+    let at = c.loop-k in
     let posts = c.args.posts.now in
     let put = at.put in
-    let h = here c.loop-link.invariant c.loop-link-test.true in
-    let k : ℕ = at.link - 1 in
+    let h = here c.loop-k.invariant c.in-Some.ensures in
+    let k : ℕ = c.in-Some.k in
     let adds =
     one_given posts put at.link k c.wide.result h.next h.down
     (omega (arith, h.place, at.invariant.size)) c.wide.ensures.0 in
-    rw (c.count-link-in-loop-link.ensures, c.count-p.ensures)
+    rw (c.count-link-in-Some.ensures, c.count-p.ensures)
     record {
       chains = at.invariant.chains;
       leads = at.invariant.chains.goes_on k (at.invariant.leads k h.next);
@@ -124,13 +90,14 @@ loop-link-preserved c =
 
 pub returns : goal.returns
 returns c =
-    let at = c.loop-link in
+    let at = c.loop-k in
+    let none : at.link ≡ 0 = omega (arith, c.in_default.ensures) in
     record {
       size = at.invariant.size;
       puts =
           λ p h. omega (
             arith,
             at.invariant.puts p h,
-            given_none c.args.posts.now at.link p c.loop-link-test.false,
+            given_none c.args.posts.now at.link p none,
           );
     }

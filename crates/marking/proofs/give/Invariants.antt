@@ -13,8 +13,8 @@ pub record Giving (first : ℕ) (posts put₀ put : List ℕ) (link : ℕ) : Typ
   pub puts : (p : ℕ) → p < 128 → get_or put p 0 + given posts link p ≡ get_or put₀ p 0 + given posts first p
   pub room : (p : ℕ) → p < 128 → get_or put p 0 + given posts link p < 4294967296
 
-abbrev pub invariant-loop-link : goal.invariant-loop-link
-invariant-loop-link l = Giving l.first l.posts l.initial.put l.put l.link
+abbrev pub invariant-loop-k : goal.invariant-loop-k
+invariant-loop-k l = Giving l.first l.posts l.initial.put l.put l.link
 
-abbrev pub decreases-loop-link : goal.decreases-loop-link
-decreases-loop-link l = l.link
+abbrev pub decreases-loop-k : goal.decreases-loop-k
+decreases-loop-k l = l.link

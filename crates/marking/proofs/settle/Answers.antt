@@ -28,8 +28,8 @@ returns c =
           (λ e. pre.none_put p (ltb-false p c.args.n e) h);
       full_is =
           elim c.if-sweep-gt65535.branch [
-            | then-sweep-gt65535 w ↦ w.full-is ∙ w.first_full-full.ensures
-            | else-sweep-gt65535 w ↦ w.full-is ∙ none_full pre swept w.if-sweep-gt65535.false
+            | then-sweep-gt65535 w ↦ rw w.full-is w.first_full-full.ensures
+            | else-sweep-gt65535 w ↦ rw w.full-is (none_full pre swept w.if-sweep-gt65535.false)
           ];
       levels_hold = levels_hold pre swept c.tend.ensures;
       starved_are = λ t. starves pre swept c.tend.ensures t (c.union-starved.ensures t);

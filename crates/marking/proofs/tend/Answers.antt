@@ -10,27 +10,24 @@ use Rattle.marking.proofs.tend.Goals.{then-levels-p-ne0+then-outside, then-level
 use Rattle.marking.proofs.tend.Goals.{else-levels-p-ne0}
 
 pub loop-p-init : goal.loop-p-init
-loop-p-init c = (omega arith, begins c.requires.kept_size c.requires.levels_size c.requires.spans)
+loop-p-init c = begins c.requires.kept_size c.requires.levels_size c.requires.spans
 
 -- The turn leaves the place tended, and the set has also whom the rest of a marked place starves, where it came below
 -- the level.
 pub loop-p-preserved : goal.loop-p-preserved
 loop-p-preserved c =
-    let inside = c.loop-p-test.true in
-    let place : c.loop-p.p < 128 = omega (arith, inside, c.requires.few) in
-    let inv = c.loop-p.invariant.1 in
-    let level = (inv.others c.loop-p.p (omega arith) place).0 in (
-      omega (arith, inside),
-      elim c.if-levels-p-ne0.branch [
-        | then-levels-p-ne0+then-outside w ↦
-            rw (w.kept-is, w.levels-is, w.starved-is)
-            (one_relevelled place inv w.relevel.ensures (λ t. grind (arith, lt-ltb, le-ltb, or-false, level)))
-        | then-levels-p-ne0+else-outside w ↦
-            rw (w.kept-is, w.levels-is, w.starved-is)
-            (one_stays place inv (not_outside _ _ _ (sym w.outside.ensures ∙ w.if-outside.false))
-            (λ t. grind (arith, lt-ltb, le-ltb, or-false, level)))
-        | else-levels-p-ne0 w ↦
-            rw (w.kept-is, w.levels-is, w.starved-is)
-            (unmarked place inv (c.requires.marked _ inside) w.if-levels-p-ne0.false)
-      ],
-    )
+    let place : c.loop-p.p < 128 = omega arith in
+    let inv = c.loop-p.invariant in
+    let level = (inv.others c.loop-p.p (omega arith) place).0 in
+    elim c.if-levels-p-ne0.branch [
+      | then-levels-p-ne0+then-outside w ↦
+          rw (w.kept-is, w.levels-is, w.starved-is)
+          (one_relevelled place inv w.relevel.ensures (λ t. grind (arith, lt-ltb, le-ltb, or-false, level)))
+      | then-levels-p-ne0+else-outside w ↦
+          rw (w.kept-is, w.levels-is, w.starved-is)
+          (one_stays place inv (not_outside _ _ _ (sym w.outside.ensures ∙ w.if-outside.false))
+          (λ t. grind (arith, lt-ltb, le-ltb, or-false, level)))
+      | else-levels-p-ne0 w ↦
+          rw (w.kept-is, w.levels-is, w.starved-is)
+          (unmarked place inv (c.requires.marked _ c.loop-p-test.true) w.if-levels-p-ne0.false)
+    ]

@@ -1,7 +1,6 @@
 use mathlib.Core.Bool.{◌||◌}
 use mathlib.Core.Path.{◌≡◌}
-use Prim.Native.Nat.{ℕ, ◌*◌, ◌-◌, ◌≤◌}
-use lib.ListN.{length}
+use Prim.Native.Nat.{ℕ}
 use Rattle.meaning.specs.Below.{some}
 use Rattle.meaning.specs.Bytes.{bit}
 use Rattle.named.specs.Named.{arc_bit, named_by}
@@ -9,9 +8,4 @@ use Rattle.named.proofs.any_unknown.Given as goal
 
 abbrev pub invariant-loop-t : goal.invariant-loop-t
 invariant-loop-t l =
-    (l.t ≤ l.m)
-    × ((j : ℕ) → bit l.named j ≡ (some l.n (λ p. arc_bit l.rows p j) || some l.t (named_by l.rows j)))
-    × (l.m ≤ 64) × (8 * l.m ≤ length l.rows)
-
-abbrev pub decreases-loop-t : goal.decreases-loop-t
-decreases-loop-t l = l.m - l.t
+    (j : ℕ) → bit l.named j ≡ (some l.n (λ p. arc_bit l.rows p j) || some l.t (named_by l.rows j))

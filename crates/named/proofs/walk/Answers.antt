@@ -4,10 +4,8 @@ use mathlib.Core.List.{List}
 use mathlib.Core.Path.{◌≡◌, refl, sym, ap, ◌∙◌}
 use Prim.Native.Nat.{ℕ}
 use native.Mathlib.Numerals.{add-one}
-use native.Mathlib.Omega.{arith}
 use Rattle.meaning.specs.Below.{some}
 use Rattle.meaning.specs.Bytes.{bit}
-use Rattle.meaning.proofs.Bool.{not_both}
 use Rattle.meaning.proofs.Below.{some_intro}
 use Rattle.sets.proofs.Bits.{bit_zero}
 use Rattle.rows.specs.declared.Declared.{Declared}
@@ -18,7 +16,7 @@ use Rattle.named.proofs.walk.Goals as goal
 
 pub loop-p-init : goal.loop-p-init
 unfolding some
-loop-p-init c = (omega arith, refl, bit_zero)
+loop-p-init c = (refl, bit_zero)
 
 -- Whether place p is lost.
 lost_is : (rows : List ℕ) (k : Declared) (p arcs by : ℕ) {r : Bool} → r ≡ (some 64 (bit by) && not (has k p))
@@ -31,10 +29,7 @@ pub returns-then-lost : goal.returns-then-lost
 returns-then-lost c =
     let at = c.loop-p in
     let lost = lost_is _ _ at.p _ _ c.lost.ensures c.union-arcs.ensures c.union.ensures in
-    record {
-      unknown_is = sym (some_intro _ _ at.p c.loop-p-test.true (sym lost ∙ c.if-lost.true));
-      arced_is = λ e. not_both refl e;
-    }
+    some_intro _ _ at.p c.loop-p-test.true (sym lost ∙ c.if-lost.true)
 
 pub loop-p-preserved : goal.loop-p-preserved
 unfolding some
@@ -42,14 +37,7 @@ loop-p-preserved c =
     let at = c.loop-p in
     let rows = c.args.rows.now in
     let lost = lost_is rows c.args.k at.p _ _ c.lost.ensures c.union-arcs.ensures c.union.ensures in (
-      omega (arith, c.loop-p-test.true),
-      rw (add-one at.p, at.invariant.1) (sym lost ∙ c.if-lost.false),
-      more_arcs rows at.p c.union-arcs.result c.union-arcs.ensures at.arced c.union-arced.result at.invariant.2
+      rw (add-one at.p, at.invariant.0) (sym lost ∙ c.if-lost.false),
+      more_arcs rows at.p c.union-arcs.result c.union-arcs.ensures at.arced c.union-arced.result at.invariant.1
           c.union-arced.ensures,
     )
-
-pub returns : goal.returns
-returns c =
-    let at = c.loop-p in
-    let all : c.args.n ≡ at.p = omega (arith, at.invariant.0, c.loop-p-test.false) in
-    rw all (record { unknown_is = sym at.invariant.1; arced_is = λ e. at.invariant.2 })

@@ -1,25 +1,30 @@
--- The loop keeps the list to be: each turn stores the lowest byte of the rest.
-use mathlib.Core.Path.{refl, ◌∙◌}
+-- The eight bytes that are copied are those that spell the number.
+use mathlib.Core.List.{append_assoc}
+use mathlib.Core.Path.{◌≡◌, sym, ◌∙◌}
+use Prim.Native.Nat.{ℕ, ◌+◌, ◌/◌}
 use native.Mathlib.Omega.{arith}
-use lib.ListN.{length-set}
-use Rattle.numbers.proofs.Stored.{one_stored, all_stored}
+use lib.ListN.{take, drop}
+use borrow.Rule.Slice.PartMut.{Post-is}
+use Rattle.std.specs.Int.{w64, to_le_bytes}
+use Rattle.meaning.specs.Bytes.{bytes}
 use Rattle.numbers.proofs.put_eight.Goals as goal
 
-pub loop-i-init : goal.loop-i-init
-loop-i-init c = (omega arith, refl, refl)
-
-pub loop-i-preserved : goal.loop-i-preserved
-loop-i-preserved c =
-    let at = c.loop-i in (
-      omega arith,
-      simp length-set at.invariant.1,
-      one_stored at.out c.args.at at.i at.rest c.loop-i-test.true
-          (omega (arith, at.invariant.1, c.requires))
-          ∙ at.invariant.2,
-    )
+-- Byte by byte they are the same.
+same : (x : ℕ) → to_le_bytes w64 x ≡ bytes 8 x
+unfolding bytes
+same x =
+    let d2 : x / 65536 ≡ x / 256 / 256 = omega arith in
+    let d3 : x / 16777216 ≡ x / 256 / 256 / 256 = omega arith in
+    let d4 : x / 4294967296 ≡ x / 256 / 256 / 256 / 256 = omega arith in
+    let d5 : x / 1099511627776 ≡ x / 256 / 256 / 256 / 256 / 256 = omega arith in
+    let d6 : x / 281474976710656 ≡ x / 256 / 256 / 256 / 256 / 256 / 256 = omega arith in
+    let d7 : x / 72057594037927936 ≡ x / 256 / 256 / 256 / 256 / 256 / 256 / 256 = omega arith in
+    cc
 
 pub returns : goal.returns
 returns c =
-    let at = c.loop-i in
     let a = c.args in
-    all_stored a.out.now at.out a.at at.i at.rest a.x (omega arith) at.invariant.2
+    let eight : c.copy_from_slice.new.self ≡ bytes 8 a.x =
+    c.copy_from_slice.ensures.after ∙ c.to_le_bytes.ensures ∙ same a.x in
+    rw (eight, Post-is a.at (a.at + 8) a.out.now (omega arith))
+    (sym (append_assoc (take a.at a.out.now) (bytes 8 a.x) (drop (a.at + 8) a.out.now)))

@@ -1,27 +1,26 @@
 -- Each kind of record is kept by its own leaf; what it files is added, and whether an earlier one said the same is
 -- what its row or the declared ones tell.
+use mathlib.Core.Bool.{Bool, true, false, not}
 use mathlib.Core.List.{List}
 use mathlib.Core.Path.{◌≡◌, refl, sym, ap, ◌∙◌}
-use Prim.Native.Nat.{ℕ, ◌+◌, ◌*◌, ◌≤◌, ◌<◌}
+use Prim.Native.Nat.{ℕ, ◌<◌}
 use native.Mathlib.Omega.{arith}
 use lib.Dec.{eqb}
 use lib.ListN.{length}
 use borrow.Author.Tests.{ne_eqb}
-use Rattle.meaning.proofs.Shows.{each_kind}
-use Rattle.meaning.proofs.Same.{shown_kind}
+use Rattle.std.proofs.Common.{Option}
+use Rattle.std.specs.Bool.{then_some}
 use Rattle.records.specs.declared.Rec.{Rec}
+use Rattle.records.specs.declared.kind.Kind.{Kind}
+use Rattle.records.specs.Kinds.{kind_number}
 use Rattle.records.specs.Record.{fault_of}
-use Rattle.scan.specs.Scan.{own_row, again_by, Room, Kept, SameRoom}
-use Rattle.scan.proofs.Slots.{kept_one}
+use Rattle.rows.specs.declared.Declared.{Declared}
+use Rattle.scan.specs.Scan.{own_row, again_by, Kept, SameRoom, Adds, Keeps}
 use Rattle.scan.proofs.Filing.{paired_next}
-use Rattle.scan.proofs.Sound.{shown_alone, one_there, two_there, sort_there, transition_there}
+use Rattle.scan.proofs.Sound.{one_there, two_there, sort_there}
 use Rattle.scan.proofs.Keeping.{files_input, files_post, files_row, files_place, files_transition, in_no_row}
-use Rattle.scan.proofs.Keeping.{in_own_row}
+use Rattle.scan.proofs.Keeping.{priority_row, action_row, function_row}
 use Rattle.scan.proofs.keep.Goals as goal
-
--- There are rows for the record.
-room : (x : Rec) (rows : List ℕ) → fault_of x ≡ 0 → 8 * x.one + 8 ≤ length rows → Room x rows
-room x rows sound there = record { rows_there = there; bit_there = two_there x sound }
 
 -- There is as much room as before where the rows alone are written.
 rows_alone : {rows rows' : List ℕ} {w s : List (List ℕ)} {heads posts times : List ℕ} → length rows' ≡ length rows
@@ -36,39 +35,100 @@ rows_alone same =
       times_same = refl;
     }
 
+-- None is told where an earlier record said the same; else what is declared after it.
+module _ {x : Rec} {r : ℕ} {known after : Declared} {rows : List ℕ} {w s : List (List ℕ)} {heads posts times : List ℕ}
+    {rows' : List ℕ} {w' s' : List (List ℕ)} {heads' posts' times' : List ℕ} where
+  told : (b : Bool) {k : Option Declared} → k ≡ then_some (not b) after → b ≡ again_by x known rows
+      → SameRoom rows w s heads posts times rows' w' s' heads' posts' times'
+      → (b ≡ false → Adds x r known after rows w s heads posts times rows' w' s' heads' posts' times')
+      → Keeps x r known k rows w s heads posts times rows' w' s' heads' posts' times'
+  told true e again same adds = record { told = rw e (sym again); room = same }
+  told false e again same adds = record { told = rw e (sym again, adds refl); room = same }
+
+-- A record of the kind that is matched has its number.
+number_is : {k v : Kind} {n : ℕ} → kind_number k ≡ n → k ≡ v → n ≡ kind_number v
+number_is e f = sym e ∙ ap kind_number f
+
+-- A record that stands in the rows alone is added there.
+row_added : {x : Rec} {r : ℕ} {known : Declared} {rows rows' : List ℕ} {w s : List (List ℕ)}
+    {heads posts times : List ℕ} (kind : ℕ) → x.kind ≡ kind
+    → eqb kind 3 ≡ false → eqb kind 1 ≡ false → eqb kind 2 ≡ false → Kept x rows rows'
+    → Adds x r known known rows w s heads posts times rows' w s heads posts times
+row_added kind e arc place transition kept =
+    record {
+      filed = λ tb reads g. files_row reads g kind e arc place transition kept;
+      paired = λ tb reads. paired_next reads kept;
+    }
+
+-- PLACES
+
+pub returns-in-Place : goal.returns-in-Place
+unfolding again_by
+returns-in-Place c =
+    let x = c.args.x in
+    let kind : x.kind ≡ 1 = number_is c.requires.kind_is c.in-Place.is in
+    let kept : Kept x c.args.rows.now c.args.rows.now = in_no_row x _ 1 kind refl refl refl refl refl in
+    told c.has_place.result c.then_some.ensures (c.has_place.ensures ∙ rw (kind, c.wide-p.ensures))
+    (rows_alone refl)
+    (λ e.
+    record {
+      filed =
+          λ tb reads g. files_place reads g kind c.wide-p.ensures
+          c.with_place.ensures.0 c.with_place.ensures.1 kept;
+      paired = λ tb reads. paired_next reads kept;
+    })
+
+-- TRANSITIONS
+
+pub returns-in-Transition : goal.returns-in-Transition
+unfolding again_by
+returns-in-Transition c =
+    let x = c.args.x in
+    let kind : x.kind ≡ 2 = number_is c.requires.kind_is c.in-Transition.is in
+    let kept : Kept x c.args.rows.now c.args.rows.now = in_no_row x _ 2 kind refl refl refl refl refl in
+    told c.has.result c.then_some-in-Transition.ensures (c.has.ensures ∙ rw (kind, c.wide-t.ensures))
+    (record {
+      rows_same = refl;
+      weights_same = refl;
+      sorts_same = refl;
+      heads_same = refl;
+      posts_same = refl;
+      times_same = c.keep_times.ensures.size ∙ sym c.requires.keep_asks.times_size;
+    })
+    (λ e.
+    record {
+      filed = λ tb reads g.
+          files_transition reads g kind c.wide-t.ensures
+          c.with_transition.ensures.0 c.with_transition.ensures.1 c.keep_times.ensures kept;
+      paired = λ tb reads. paired_next reads kept;
+    })
+
 -- POST ARCS
 
-pub keep_post-again-requires : goal.keep_post-again-requires
-keep_post-again-requires c =
-    record {
-      room =
-          (room _ _ c.requires.sound c.requires.rows_there, c.requires.few, c.requires.posts_there);
-      kind_value = (c.if-kind-eq3.true, c.if-x-eq3.true);
-    }
-
-pub returns-then-x-eq3 : goal.returns-then-x-eq3
+pub returns-in-Arc : goal.returns-in-Arc
 unfolding again_by own_row
-returns-then-x-eq3 c =
+returns-in-Arc c =
     let x = c.args.x in
-    let kind : x.kind ≡ 3 = c.if-kind-eq3.true in
+    let asks = c.requires.keep_asks in
+    let kind : x.kind ≡ 3 = number_is c.requires.kind_is c.in-Arc.is in
     let sort : x.sort ≡ 3 = c.if-x-eq3.true in
-    let done = c.keep_post-again.ensures.post_kept in
+    let done = c.keep_post.ensures.post_kept in
+    told c.keep_post.result c.then_some-in-Arc.ensures (c.keep_post.ensures.value ∙ rw (kind, sort))
+    (record {
+      rows_same = done.size;
+      weights_same = refl;
+      sorts_same = refl;
+      heads_same = done.heads_size;
+      posts_same = done.posts_size;
+      times_same = refl;
+    })
+    (λ e.
     record {
-      again_is = c.keep_post-again.ensures.value ∙ rw (kind, sort);
-      room =
-          record {
-            rows_same = done.size;
-            weights_same = refl;
-            sorts_same = refl;
-            heads_same = done.heads_size;
-            posts_same = done.posts_size;
-            times_same = refl;
-          };
-      filed = λ tb reads e g.
-          files_post reads g kind sort (one_there x c.requires.sound) (two_there x c.requires.sound)
-          c.requires.heads_size c.requires.posts_there (rw e at done);
-      paired = λ tb reads e g. paired_next reads (done.kept e) g;
-    }
+      filed =
+          λ tb reads g. files_post reads g kind sort (one_there x asks.sound) (two_there x asks.sound)
+          asks.heads_size asks.posts_there (rw e at done);
+      paired = λ tb reads. paired_next reads (done.kept e);
+    })
 
 -- INPUT ARCS
 
@@ -76,171 +136,77 @@ returns-then-x-eq3 c =
 below_three : (x : Rec) → fault_of x ≡ 0 → x.kind ≡ 3 → ¬ (x.sort ≡ 3) → x.sort < 3
 below_three x sound kind n = omega (arith, sort_there x sound kind, n)
 
-pub keep_input-again-requires : goal.keep_input-again-requires
-keep_input-again-requires c =
-    record {
-      room =
-          (room _ _ c.requires.sound c.requires.rows_there, c.requires.weights_there, c.requires.sorts_there);
-      kind_value =
-          (c.if-kind-eq3.true, below_three _ c.requires.sound c.if-kind-eq3.true c.if-x-eq3.false);
-    }
-
-pub returns-then-kind-eq3 : goal.returns-then-kind-eq3
+pub returns-in-Arc-2 : goal.returns-in-Arc-2
 unfolding again_by own_row
-returns-then-kind-eq3 c =
+returns-in-Arc-2 c =
     let x = c.args.x in
-    let kind : x.kind ≡ 3 = c.if-kind-eq3.true in
+    let asks = c.requires.keep_asks in
+    let kind : x.kind ≡ 3 = number_is c.requires.kind_is c.in-Arc-2.is in
     let other : ¬ (x.sort ≡ 3) = c.if-x-eq3.false in
-    let done = c.keep_input-again.ensures.input_kept in
+    let done = c.keep_input.ensures.input_kept in
+    told c.keep_input.result c.then_some-in-Arc-2.ensures
+    (c.keep_input.ensures.value ∙ rw (kind, ne_eqb x.sort 3 other))
+    (record {
+      rows_same = done.size;
+      weights_same = done.weights_size;
+      sorts_same = done.sorts_size;
+      heads_same = refl;
+      posts_same = refl;
+      times_same = refl;
+    })
+    (λ e.
     record {
-      again_is = c.keep_input-again.ensures.value ∙ rw (kind, ne_eqb x.sort 3 other);
-      room =
-          record {
-            rows_same = done.size;
-            weights_same = done.weights_size;
-            sorts_same = done.sorts_size;
-            heads_same = refl;
-            posts_same = refl;
-            times_same = refl;
-          };
-      filed = λ tb reads e g.
-          files_input reads g kind (below_three x c.requires.sound kind other) c.requires.weights_there
-          c.requires.sorts_there (two_there x c.requires.sound) (rw e at done);
-      paired = λ tb reads e g. paired_next reads (done.kept e) g;
-    }
-
--- PLACES
-
-pub with_place-requires : goal.with_place-requires
-with_place-requires c = omega (arith, c.wide-one.ensures, one_there _ c.requires.sound)
-
-pub returns-then-kind-eq1 : goal.returns-then-kind-eq1
-unfolding again_by
-returns-then-kind-eq1 c =
-    let x = c.args.x in
-    let kind : x.kind ≡ 1 = c.if-kind-eq1.true in
-    let kept : Kept x c.args.rows.now c.args.rows.now = in_no_row x _ 1 kind refl refl refl refl refl in
-    record {
-      again_is = c.has_place.ensures ∙ rw (kind, c.wide-one.ensures);
-      room = rows_alone refl;
-      filed =
-          λ tb reads e g. files_place reads g kind c.wide-one.ensures
-          c.with_place.ensures.0 c.with_place.ensures.1 kept;
-      paired = λ tb reads e g. paired_next reads kept g;
-    }
-
--- TRANSITIONS
-
-pub keep_times-requires : goal.keep_times-requires
-keep_times-requires c = (transition_there _ c.requires.sound c.if-kind-eq2.true, c.requires.times_size)
-
-pub with_transition-requires : goal.with_transition-requires
-with_transition-requires c =
-    let low = transition_there _ c.requires.sound c.if-kind-eq2.true in
-    omega (arith, c.wide-one.ensures, low)
-
-pub returns-then-kind-eq2 : goal.returns-then-kind-eq2
-unfolding again_by
-returns-then-kind-eq2 c =
-    let x = c.args.x in
-    let kind : x.kind ≡ 2 = c.if-kind-eq2.true in
-    let kept : Kept x c.args.rows.now c.args.rows.now = in_no_row x _ 2 kind refl refl refl refl refl in
-    record {
-      again_is = c.has.ensures ∙ rw (kind, c.wide-one.ensures);
-      room =
-          record {
-            rows_same = refl;
-            weights_same = refl;
-            sorts_same = refl;
-            heads_same = refl;
-            posts_same = refl;
-            times_same = c.keep_times.ensures.size ∙ sym c.requires.times_size;
-          };
-      filed = λ tb reads e g.
-          files_transition reads g kind c.wide-one.ensures
-          c.with_transition.ensures.0 c.with_transition.ensures.1 c.keep_times.ensures kept;
-      paired = λ tb reads e g. paired_next reads kept g;
-    }
+      filed = λ tb reads g.
+          files_input reads g kind (below_three x asks.sound kind other) asks.weights_there
+          asks.sorts_there (two_there x asks.sound) (rw e at done);
+      paired = λ tb reads. paired_next reads (done.kept e);
+    })
 
 -- CONDITIONS
 
-pub keep_condition-again-requires : goal.keep_condition-again-requires
-keep_condition-again-requires c =
-    (room _ _ c.requires.sound c.requires.rows_there, c.if-kind-eq4.true)
-
-pub returns-then-kind-eq4 : goal.returns-then-kind-eq4
+pub returns-in-Condition : goal.returns-in-Condition
 unfolding again_by own_row
-returns-then-kind-eq4 c =
-    let kind : c.args.x.kind ≡ 4 = c.if-kind-eq4.true in
-    let done = c.keep_condition-again.ensures.kept in
-    record {
-      again_is = c.keep_condition-again.ensures.value ∙ rw kind;
-      room = rows_alone done.1;
-      filed = λ tb reads e g. files_row reads g 4 kind refl refl refl (done.0 e);
-      paired = λ tb reads e g. paired_next reads (done.0 e) g;
-    }
+returns-in-Condition c =
+    let kind : c.args.x.kind ≡ 4 = number_is c.requires.kind_is c.in-Condition.is in
+    let done = c.keep_condition.ensures.kept in
+    told c.keep_condition.result c.then_some-in-Condition.ensures (c.keep_condition.ensures.value ∙ rw kind)
+    (rows_alone done.1) (λ e. row_added 4 kind refl refl refl (done.0 e))
 
--- PRIORITIES, ACTIONS AND FUNCTIONS
+-- PRIORITIES
 
--- What is none of the others is of kind 5 to 7.
-last_kinds : (x : Rec) → fault_of x ≡ 0 → ¬ (x.kind ≡ 3) → ¬ (x.kind ≡ 1) → ¬ (x.kind ≡ 2) → ¬ (x.kind ≡ 4)
-    → (5 ≤ x.kind) × (x.kind ≤ 7)
-last_kinds x sound a b c d =
-    let range = shown_kind (shown_alone x sound) in (
-      each_kind (λ k. x.kind ≡ k → 5 ≤ k) (λ e. absurd (b e)) (λ e. absurd (c e)) (λ e. absurd (a e))
-          (λ e. absurd (d e)) (λ e. omega arith)
-          (λ e. omega arith) (λ e. omega arith) x.kind range.0 range.1 refl,
-      range.1,
-    )
+pub keep_alone-requires-clause-own : goal.keep_alone-requires-clause-own
+keep_alone-requires-clause-own c = priority_row _ (number_is c.requires.kind_is c.in-Priority.is)
 
--- Their row does not ask for the sort.
-row_same : (k s : ℕ) → 5 ≤ k → k ≤ 7 → own_row k 0 ≡ own_row k s
-unfolding own_row
-row_same k s low high =
-    each_kind (λ k. 5 ≤ k → own_row k 0 ≡ own_row k s) (λ h. absurd (omega (arith, h)))
-    (λ h. absurd (omega (arith, h))) (λ h. absurd (omega (arith, h)))
-    (λ h. refl) (λ h. refl) (λ h. refl) (λ h. refl) k (omega (arith, low)) high low
+pub returns-in-Priority : goal.returns-in-Priority
+unfolding again_by own_row
+returns-in-Priority c =
+    let kind : c.args.x.kind ≡ 5 = number_is c.requires.kind_is c.in-Priority.is in
+    let done = c.keep_alone.ensures in
+    told c.keep_alone.result c.then_some-in-Priority.ensures (done.value ∙ rw kind) (rows_alone done.kept.1)
+    (λ e. row_added 5 kind refl refl refl done.kept.0)
 
-pub row_of-requires : goal.row_of-requires
-row_of-requires c =
-    last_kinds _ c.requires.sound
-    c.if-kind-eq3.false c.if-kind-eq1.false
-    c.if-kind-eq2.false c.if-kind-eq4.false
+-- ACTIONS
 
-pub overflow_add-one : goal.overflow_add-one
-overflow_add-one c = omega (arith, c.row_of.ensures.1, c.wide-one.ensures, one_there _ c.requires.sound)
+pub keep_alone-requires-in-Action-clause-own : goal.keep_alone-requires-in-Action-clause-own
+keep_alone-requires-in-Action-clause-own c = action_row _ (number_is c.requires.kind_is c.in-Action.is)
 
-pub enter-again-requires : goal.enter-again-requires
-enter-again-requires c = (
-  omega (arith, c.row_of.ensures.1, c.wide-one.ensures, c.requires.rows_there),
-  omega (arith, c.wide.ensures, two_there _ c.requires.sound),
-)
+pub returns-in-Action : goal.returns-in-Action
+unfolding again_by own_row
+returns-in-Action c =
+    let kind : c.args.x.kind ≡ 6 = number_is c.requires.kind_is c.in-Action.is in
+    let done = c.keep_alone-in-Action.ensures in
+    told c.keep_alone-in-Action.result c.then_some-in-Action.ensures (done.value ∙ rw kind) (rows_alone done.kept.1)
+    (λ e. row_added 6 kind refl refl refl done.kept.0)
 
-pub returns : goal.returns
-unfolding again_by
-returns c =
-    let x = c.args.x in
-    let kinds =
-    last_kinds x c.requires.sound c.if-kind-eq3.false c.if-kind-eq1.false c.if-kind-eq2.false c.if-kind-eq4.false in
-    let own = c.row_of.ensures in
-    let one = c.wide-one.ensures in
-    let done = c.enter-again.ensures in
-    let kept : Kept x c.args.rows.now _ =
-    kept_one x _ done.entered (rw one) c.wide.ensures own.1
-    (λ k h. in_own_row x kinds.0 kinds.1 k h ∙ ap (λ (n : ℕ). eqb n k) (sym own.0)) in
-    record {
-      again_is =
-          done.value ∙ rw (
-            ne_eqb x.kind 1 c.if-kind-eq1.false,
-            ne_eqb x.kind 2 c.if-kind-eq2.false,
-            one,
-            c.wide.ensures,
-            own.0,
-            row_same x.kind x.sort kinds.0 kinds.1,
-          );
-      room = rows_alone done.entered.size;
-      filed = λ tb reads e g.
-          files_row reads g x.kind refl (ne_eqb _ 3 c.if-kind-eq3.false) (ne_eqb _ 1 c.if-kind-eq1.false)
-          (ne_eqb _ 2 c.if-kind-eq2.false) kept;
-      paired = λ tb reads e g. paired_next reads kept g;
-    }
+-- FUNCTIONS
+
+pub keep_alone-requires-in-Function-clause-own : goal.keep_alone-requires-in-Function-clause-own
+keep_alone-requires-in-Function-clause-own c = function_row _ (number_is c.requires.kind_is c.in-Function.is)
+
+pub returns-in-Function : goal.returns-in-Function
+unfolding again_by own_row
+returns-in-Function c =
+    let kind : c.args.x.kind ≡ 7 = number_is c.requires.kind_is c.in-Function.is in
+    let done = c.keep_alone-in-Function.ensures in
+    told c.keep_alone-in-Function.result c.then_some-in-Function.ensures (done.value ∙ rw kind) (rows_alone done.kept.1)
+    (λ e. row_added 7 kind refl refl refl done.kept.0)

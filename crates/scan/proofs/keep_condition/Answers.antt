@@ -1,17 +1,12 @@
 -- The condition is among those looked at, and among those wanted true where its sort says so.
-use mathlib.Core.Bool.{Bool, ◌||◌}
-use mathlib.Core.List.{List}
-use mathlib.Core.Path.{◌≡◌, refl, sym, ◌∙◌}
-use Prim.Native.Nat.{ℕ, ◌+◌, ◌*◌, ◌<◌}
+use mathlib.Core.Bool.{◌||◌}
+use mathlib.Core.Path.{◌≡◌, ◌∙◌}
+use Prim.Native.Nat.{ℕ, ◌<◌}
 use native.Mathlib.Omega.{arith}
 use lib.Dec.{eqb}
-use lib.ListN.{get_or}
 use borrow.Author.Tests.{ne_eqb}
-use Rattle.meaning.specs.Bytes.{bit}
-use Rattle.meaning.proofs.Bool.{not_both}
 use Rattle.records.specs.declared.Rec.{Rec}
 use Rattle.records.specs.Record.{alone}
-use Rattle.rows.specs.Rows.{looks}
 use Rattle.rows.specs.Filed.{kept_in}
 use Rattle.scan.proofs.Slots.{by_row, kept_one, kept_two}
 use Rattle.scan.proofs.keep_condition.Goals as goal
@@ -29,45 +24,20 @@ unwanted x k s =
     by_row (λ c. kept_in (alone x) c 0 ≡ eqb 4 c) (rw k) (rw k) (rw k) (rw k) (rw k) (rw (k, ne_eqb x.sort 0 s))
     (rw k) (rw k)
 
--- What the row of conditions said before.
-before : (q y i j : ℕ) (rows : List ℕ) (b : Bool) → b ≡ bit (get_or rows q 0) y → q ≡ 8 * i + 4 → y ≡ j
-    → b ≡ bit (looks rows i) j
-before q y i j rows b e p r = e ∙ rw (p, r)
-
-pub returns-then-enter : goal.returns-then-enter
-returns-then-enter c =
-    record {
-      value =
-          sym c.if-enter.true
-          ∙ before _ _ c.args.x.one c.args.x.two _ _ c.enter.ensures.value (rw c.wide-t.ensures) c.wide-c.ensures;
-      kept = (λ e. not_both refl e, c.enter.ensures.entered.size);
-    }
-
-pub returns-then-x-eq0 : goal.returns-then-x-eq0
-returns-then-x-eq0 c =
+pub returns-then-x-eq0-clause-kept : goal.returns-then-x-eq0-clause-kept
+returns-then-x-eq0-clause-kept c =
     let x = c.args.x in
     let t : c.wide-t.result ≡ x.one = c.wide-t.ensures in
-    let k : c.wide-c.result ≡ x.two = c.wide-c.ensures in
-    record {
-      value = sym c.if-enter.false ∙ before _ _ x.one x.two _ _ c.enter.ensures.value (rw t) k;
-      kept = (
-        λ e. kept_two x _ c.enter.ensures.entered (omega (arith, t)) k (omega arith)
-            c.enter-then-x-eq0.ensures.entered (omega (arith, t)) k (omega arith)
-            (wanted x c.requires.1 c.if-x-eq0.true),
-        c.enter-then-x-eq0.ensures.entered.size ∙ c.enter.ensures.entered.size,
-      );
-    }
+    let k : c.wide-c.result ≡ x.two = c.wide-c.ensures in (
+      λ e. kept_two x _ c.enter.ensures.entered (omega (arith, t)) k (omega arith)
+          c.enter-then-x-eq0.ensures.entered (omega (arith, t)) k (omega arith)
+          (wanted x c.requires.1 c.if-x-eq0.true),
+      c.enter-then-x-eq0.ensures.entered.size ∙ c.enter.ensures.entered.size,
+    )
 
-pub returns-else-x-eq0 : goal.returns-else-x-eq0
-returns-else-x-eq0 c =
-    let x = c.args.x in
-    let t : c.wide-t.result ≡ x.one = c.wide-t.ensures in
-    let k : c.wide-c.result ≡ x.two = c.wide-c.ensures in
-    record {
-      value = sym c.if-enter.false ∙ before _ _ x.one x.two _ _ c.enter.ensures.value (rw t) k;
-      kept = (
-        λ e. kept_one x _ c.enter.ensures.entered (omega (arith, t)) k (omega arith)
-            (unwanted x c.requires.1 c.if-x-eq0.false),
-        c.enter.ensures.entered.size,
-      );
-    }
+pub returns-else-x-eq0-clause-kept : goal.returns-else-x-eq0-clause-kept
+returns-else-x-eq0-clause-kept c = (
+  λ e. kept_one c.args.x _ c.enter.ensures.entered (omega (arith, c.wide-t.ensures)) c.wide-c.ensures (omega arith)
+      (unwanted c.args.x c.requires.1 c.if-x-eq0.false),
+  c.enter.ensures.entered.size,
+)

@@ -1,18 +1,14 @@
 -- The arc is among the input arcs of its place, and among the takers if it is basic; its weight and its sort are
 -- stored in its cell.
-use mathlib.Core.Bool.{Bool, ◌||◌}
-use mathlib.Core.List.{List}
-use mathlib.Core.Path.{◌≡◌, refl, sym, ◌∙◌}
-use Prim.Native.Nat.{ℕ, ◌+◌, ◌*◌, ◌<◌}
+use mathlib.Core.Bool.{◌||◌}
+use mathlib.Core.Path.{◌≡◌, ◌∙◌}
+use Prim.Native.Nat.{ℕ, ◌<◌}
 use native.Mathlib.Omega.{arith}
 use lib.Dec.{eqb}
-use lib.ListN.{length, get_or, length-set}
+use lib.ListN.{length, length-set}
 use borrow.Author.Tests.{ne_eqb, lt-ltb}
-use Rattle.meaning.specs.Bytes.{bit}
-use Rattle.meaning.proofs.Bool.{not_both}
 use Rattle.records.specs.declared.Rec.{Rec}
 use Rattle.records.specs.Record.{alone}
-use Rattle.rows.specs.Rows.{inputs}
 use Rattle.rows.specs.Filed.{kept_in}
 use Rattle.scan.specs.Scan.{Kept}
 use Rattle.scan.proofs.Slots.{by_row, kept_one, kept_two}
@@ -34,31 +30,9 @@ other_rows x k low n =
     (rw (k, ne_eqb x.sort 3 no))
     (rw k) (rw k) (rw k) (rw k) (rw k)
 
--- What the row of input arcs said before.
-before : (q y i j : ℕ) (rows : List ℕ) (b : Bool) → b ≡ bit (get_or rows q 0) y → q ≡ 8 * i + 0 → y ≡ j
-    → b ≡ bit (inputs rows i) j
-before q y i j rows b e p r = e ∙ rw (p, r)
-
-pub returns-then-enter : goal.returns-then-enter
-returns-then-enter c =
-    record {
-      value =
-          sym c.if-enter.true
-          ∙ before _ _ c.args.x.one c.args.x.two _ _ c.enter.ensures.value (rw c.wide-p.ensures) c.wide-t.ensures;
-      input_kept =
-          record {
-            size = c.enter.ensures.entered.size;
-            weights_size = refl;
-            sorts_size = refl;
-            kept = λ e. not_both refl e;
-            weight = λ e. not_both refl e;
-            sort = λ e. not_both refl e;
-          };
-    }
-
 -- The rows after both ways.
-pub returns : goal.returns
-returns c =
+pub returns-clause-input_kept : goal.returns-clause-input_kept
+returns-clause-input_kept c =
     let x = c.args.x in
     let rows = c.args.rows.now in
     let p : c.wide-p.result ≡ x.one = c.wide-p.ensures in
@@ -80,14 +54,10 @@ returns c =
           )
     ] in
     record {
-      value = sym c.if-enter.false ∙ before _ _ x.one x.two _ _ c.enter.ensures.value (rw p) t;
-      input_kept =
-          record {
-            size = rows_kept.1;
-            weights_size = length-set c.args.w.now _ _;
-            sorts_size = length-set c.args.s.now _ _;
-            kept = λ e. rows_kept.0;
-            weight = λ e. rw (p, t);
-            sort = λ e. rw (p, t);
-          };
+      size = rows_kept.1;
+      weights_size = length-set c.args.w.now _ _;
+      sorts_size = length-set c.args.s.now _ _;
+      kept = λ e. rows_kept.0;
+      weight = λ e. rw (p, t);
+      sort = λ e. rw (p, t);
     }

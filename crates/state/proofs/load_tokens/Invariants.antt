@@ -1,5 +1,5 @@
 use mathlib.Core.Path.{◌≡◌}
-use Prim.Native.Nat.{ℕ, ◌≤◌, ◌-◌}
+use Prim.Native.Nat.{ℕ, ◌≤◌}
 use lib.ListN.{length, get_or}
 use Rattle.meaning.specs.Image.{image, state}
 use Rattle.state.specs.Holds.{Lists}
@@ -7,8 +7,5 @@ use Rattle.state.proofs.load_tokens.Given as goal
 
 abbrev pub invariant-loop-p : goal.invariant-loop-p
 invariant-loop-p l =
-    (l.p ≤ l.n) × (length l.tokens ≡ 128) × Lists l.p (state (image l.image)).tokens l.tokens
+    (length l.tokens ≡ 128) × Lists l.p (state (image l.image)).tokens l.tokens
     × ((i : ℕ) → l.p ≤ i → get_or l.tokens i 0 ≡ 0)
-
-abbrev pub decreases-loop-p : goal.decreases-loop-p
-decreases-loop-p l = l.n - l.p

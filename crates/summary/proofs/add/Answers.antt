@@ -1,56 +1,54 @@
 -- Each way out is one of the two cases of what add leaves.
-use mathlib.Core.Bool.{◌||◌}
-use mathlib.Core.Path.{sym, ◌∙◌}
-use Prim.Native.Nat.{◌+◌, ◌≤◌}
+use mathlib.Core.Bool.{not, ◌||◌}
+use mathlib.Core.Path.{◌≡◌, sym, ap, ◌∙◌}
+use Prim.Native.Nat.{ℕ, ◌<◌}
 use native.Mathlib.Omega.{arith}
-use borrow.Author.Tests.{lt-ltb, le-ltb}
+use lib.Dec.{ltb}
+use borrow.Author.Tests.{lt-ltb, le-ltb, ltb-false}
+use Rattle.std.specs.Prelude.{Option}
+use Rattle.std.specs.declared.option.Option.TheVariants.{Some, None}
+use Rattle.std.specs.Option.{SomeIff, is_some}
 use Rattle.meaning.proofs.Bool.{or_true_left, or_true_right, or_false}
-use Rattle.summary.specs.Day.{cycles_of, too_often}
+use Rattle.summary.specs.Day.{too_often}
 use Rattle.summary.proofs.Adding.{fair_if, sums_low}
 use Rattle.summary.proofs.Outcomes.{add_refused, add_passed}
 use Rattle.summary.proofs.add.Goals as goal
+use Rattle.summary.proofs.add.Goals.{then-fires_too_often-via-then-fires_too_often}
+use Rattle.summary.proofs.add.Goals.{then-fires_too_often-via-else-fires_too_often+then-fires_too_often-2}
+use Rattle.summary.proofs.add.Goals.{then-fires_too_often-via-else-fires_too_often+else-fires_too_often-2+then-is_none}
+
+-- The cycles together have a place or pass the most.
+passes : (r : Option ℕ) (n : ℕ) → SomeIff r (n < 4294967296) n → ltb 4294967295 n ≡ not (is_some r)
+passes (Some x) n h = le-ltb 4294967295 n (omega (arith, h.0))
+passes None n h = lt-ltb 4294967295 n (omega (arith, h))
 
 pub returns-then-fires_too_often : goal.returns-then-fires_too_often
 returns-then-fires_too_often c =
-    let e = sym c.fires_too_often.ensures ∙ c.if-fires_too_often.true in
-    let left = add_refused _ _ (or_true_left _ (or_true_left _ e)) in
-    let said = c.refusal.ensures in
-    record { answer_is = said.0 ∙ left.answer_is; counts_are = said.1 ∙ left.counts_are }
-
-pub returns-then-fires_too_often-2 : goal.returns-then-fires_too_often-2
-returns-then-fires_too_often-2 c =
-    let e = sym c.fires_too_often-2.ensures ∙ c.if-fires_too_often-2.true in
-    let left = add_refused _ _ (or_true_left _ (or_true_right (too_often c.args.one.now) e)) in
-    let said = c.refusal-then-fires_too_often-2.ensures in
-    record { answer_is = said.0 ∙ left.answer_is; counts_are = said.1 ∙ left.counts_are }
-
-pub returns-then-long-gt4294967295 : goal.returns-then-long-gt4294967295
-returns-then-long-gt4294967295 c =
     let one = c.args.one.now in
     let other = c.args.other.now in
-    let e =
-    lt-ltb 4294967295 (cycles_of one + cycles_of other)
-    (omega (arith, c.if-long-gt4294967295.true, c.long.ensures.0, c.long-2.ensures.0)) in
-    let left = add_refused one other (or_true_right (too_often one || too_often other) e) in
-    let said = c.refusal-then-long-gt4294967295.ensures in
-    record { answer_is = said.0 ∙ left.answer_is; counts_are = said.1 ∙ left.counts_are }
+    add_refused one other
+    (elim c.then-fires_too_often.branch [
+      | then-fires_too_often-via-then-fires_too_often w ↦
+          or_true_left _ (or_true_left _ (sym c.fires_too_often.ensures ∙ w.if-fires_too_often.true))
+      | then-fires_too_often-via-else-fires_too_often+then-fires_too_often-2 w ↦
+          or_true_left _
+          (or_true_right (too_often one)
+          (sym w.fires_too_often-else-fires_too_often.ensures ∙ w.if-fires_too_often-2.true))
+      | then-fires_too_often-via-else-fires_too_often+else-fires_too_often-2+then-is_none w ↦
+          or_true_right (too_often one || too_often other)
+          (passes _ _ w.checked_add.ensures ∙ ap not w.if-is_none.ensures)
+    ])
 
--- The three tests that were passed.
-pub sum-counts-requires : goal.sum-counts-requires
-sum-counts-requires c =
+pub sum-requires : goal.sum-requires
+sum-requires c =
     let a = c.args in
-    let one_fair = sym c.fires_too_often.ensures ∙ c.if-fires_too_often.false in
-    let other_fair = sym c.fires_too_often-2.ensures ∙ c.if-fires_too_often-2.false in
-    let few : cycles_of a.one.now + cycles_of a.other.now ≤ 4294967295 =
-    omega (arith, c.if-long-gt4294967295.false, c.long.ensures.0, c.long-2.ensures.0) in
-    sums_low a.one.now a.other.now (fair_if _ one_fair) (fair_if _ other_fair) few
+    let few = passes _ _ c.checked_add.ensures ∙ ap not c.if-is_none.ensures in
+    sums_low a.one.now a.other.now (fair_if _ (sym c.if-fires_too_often.ensures))
+    (fair_if _ (sym c.if-fires_too_often-2.ensures)) (ltb-false _ _ few)
 
 pub returns : goal.returns
 returns c =
-    let a = c.args in
-    let one_fair = sym c.fires_too_often.ensures ∙ c.if-fires_too_often.false in
-    let other_fair = sym c.fires_too_often-2.ensures ∙ c.if-fires_too_often-2.false in
-    let few : cycles_of a.one.now + cycles_of a.other.now ≤ 4294967295 =
-    omega (arith, c.if-long-gt4294967295.false, c.long.ensures.0, c.long-2.ensures.0) in
-    let left = add_passed _ _ (or_false (or_false one_fair other_fair) (le-ltb 4294967295 _ few)) in
-    record { answer_is = left.answer_is; counts_are = c.sum-counts.ensures ∙ left.counts_are }
+    let few = passes _ _ c.checked_add.ensures ∙ ap not c.if-is_none.ensures in
+    let fair = or_false (sym c.if-fires_too_often.ensures) (sym c.if-fires_too_often-2.ensures) in
+    let left = add_passed _ _ (or_false fair few) in
+    record { answer_is = left.answer_is; counts_are = c.sum.ensures ∙ left.counts_are }

@@ -1,12 +1,9 @@
 use mathlib.Core.Path.{◌≡◌}
-use Prim.Native.Nat.{ℕ, ◌-◌, ◌≤◌, ◌<◌}
+use Prim.Native.Nat.{ℕ, ◌<◌}
 use lib.ListN.{length}
 use Rattle.summary.specs.Day.{times_of, times}
 use Rattle.summary.proofs.summarize.Given as goal
 
 abbrev pub invariant-loop-r : goal.invariant-loop-r
 invariant-loop-r l =
-    (l.r ≤ l.records) × (length l.counts ≡ 65) × ((k : ℕ) → k < 64 → times_of l.counts k ≡ times l.report l.r k)
-
-abbrev pub decreases-loop-r : goal.decreases-loop-r
-decreases-loop-r l = l.records - l.r
+    (length l.counts ≡ 65) × ((k : ℕ) → k < 64 → times_of l.counts k ≡ times l.report l.r k)

@@ -14,32 +14,27 @@ use Rattle.summary.proofs.undeclared.Goals as goal
 
 pub loop-r-init : goal.loop-r-init
 unfolding some
-loop-r-init c = (omega arith, λ k. sym (and-true _))
+loop-r-init c k = sym (and-true _)
 
 pub loop-r-preserved : goal.loop-r-preserved
 unfolding some
-loop-r-preserved c =
-    let turn = c in
-    let at = turn.loop-r in
-    let t = turn.args.t.now in
-    let read = inside t at.r (omega arith) in (
-      omega arith,
-      λ k.
-          c.struck-left.ensures k
-          ∙ ap₂ (λ (a b : Bool). a && not b) (at.invariant.1 k)
-          (ap₂ (λ (kind one : ℕ). eqb kind 2 && eqb one k) read.kind read.one)
-          ∙ struck_more (bit 18446744073709551615 k) (some at.r (λ q. is (table t) 2 q && eqb ((table t).one q) k))
-          (is (table t) 2 at.r && eqb ((table t).one at.r) k)
-          ∙ ap (λ (n : ℕ). bit 18446744073709551615 k && not (some n (λ q. is (table t) 2 q && eqb ((table t).one q)
-          k)))
-          (sym (add-one at.r)),
-    )
+loop-r-preserved c k =
+    let at = c.loop-r in
+    let t = c.args.t.now in
+    let read = inside t at.r (omega arith) in
+    c.struck-left.ensures k
+    ∙ ap₂ (λ (a b : Bool). a && not b) (at.invariant k)
+    (ap₂ (λ (kind one : ℕ). eqb kind 2 && eqb one k) read.kind read.one)
+    ∙ struck_more (bit 18446744073709551615 k) (some at.r (λ q. is (table t) 2 q && eqb ((table t).one q) k))
+    (is (table t) 2 at.r && eqb ((table t).one at.r) k)
+    ∙ ap (λ (n : ℕ). bit 18446744073709551615 k && not (some n (λ q. is (table t) 2 q && eqb ((table t).one q) k)))
+    (sym (add-one at.r))
 
 pub returns : goal.returns
 unfolding table transition
 returns c k l =
     let at = c.loop-r in
     let t = c.args.t.now in
-    let all : at.r ≡ (table t).records = omega (arith, at.invariant.0, c.loop-r-test.false) in
-    at.invariant.1 k
+    let all : at.r ≡ (table t).records = omega arith in
+    at.invariant k
     ∙ ap₂ (λ (b : Bool) (n : ℕ). b && not (some n (λ q. is (table t) 2 q && eqb ((table t).one q) k))) (ones k l) all

@@ -1,27 +1,62 @@
 -- Each part says of the rows what the law `Whole` carries to the table.
-use mathlib.Core.Bool.{true, ◌&&◌, ◌||◌}
+use mathlib.Core.Bool.{true, not, ◌&&◌, ◌||◌}
 use mathlib.Core.List.{List}
 use mathlib.Core.Path.{◌≡◌, ◌∙◌}
-use Prim.Native.Nat.{ℕ, ◌^◌, ◌<◌}
+use Prim.Native.Nat.{ℕ, ◌+◌, ◌*◌, ◌^◌, ◌<◌}
 use native.Mathlib.Omega.{arith}
 use lib.Bits.{bit_and}
+use lib.ListN.{get_or}
+use Rattle.meaning.specs.Below.{some}
 use Rattle.meaning.specs.Bytes.{bit}
 use Rattle.meaning.specs.Table.{table, transition}
 use Rattle.sets.proofs.Bits.{bit-and}
 use Rattle.firing.proofs.Meaning.{ranks, housed}
-use Rattle.turn.specs.Turn.{Laid}
+use Rattle.edge.specs.Edges.{Raises, Ready, Able}
+use Rattle.firing.specs.Fired.{Fires}
+use Rattle.marking.specs.declared.Moved.{Moved}
+use Rattle.marking.specs.Moves.{Tallied}
+use Rattle.turn.specs.declared.Net.{Net}
+use Rattle.turn.specs.Turn.{Laid, Poised}
 use Rattle.turn.proofs.Whole.{put_most, chains, rows_of, weights_of, on_bit, Told, fired_known, settle_asks}
 use Rattle.turn.proofs.Whole.{stepped, poised}
 use Rattle.turn.proofs.Firable.{firable_asks, counts_are, counts_low, able_are}
 use Rattle.turn.proofs.step.Goals as goal
 
--- Whom the rows enable, and who is firable, by whatever table the rows are of; and what the parts have told.
+-- The parts of the cycle have told it all, of whatever table the rows are.
+told_of : {bs : List ℕ} {net : Net} {rows arcs times : List ℕ} {w s : List (List ℕ)} {heads posts : List ℕ}
+    (laid : Laid bs net rows arcs times w s heads posts) {tokens counters kept levels none₁ none₂ : List ℕ}
+    → Poised rows w s tokens counters kept levels none₁ none₂ → (orders word ready : ℕ) {counters' : List ℕ}
+    → {shut shown on able f : ℕ} {taken put : List ℕ} {moved : Moved}
+    → ((t : ℕ) → bit shut t ≡ some (8 * net.eights) (λ p. bit (get_or kept p 0) t))
+    → ((k : ℕ) → bit shown k ≡ some (8 * net.eights) (λ p. bit (get_or kept (128 + p) 0) k))
+    → ((t : ℕ) → bit on t ≡ (bit net.known t && not (bit shut t)))
+    → Raises net.timed orders on times counters counters' → Ready net.timed on times counters' ready
+    → Able on net.timed ready rows word able → f < 2 ^ 64 → Fires able tokens rows arcs w s f
+    → Tallied f rows w heads posts kept taken put moved
+    → Told laid tokens counters orders word kept levels counters' shut shown on able f taken put moved
+told_of laid {tokens} {counters} poises orders word ready shut_is shown_is on_is raises ready_is able_is low fires_it
+    tallied =
+    let on_are = on_bit laid _ _ _ _ _ poises.levels_hold shut_is on_is in
+    record {
+      levels_hold = poises.levels_hold;
+      tokens_low = poises.tokens_low;
+      shut_is = shut_is;
+      shown_is = shown_is;
+      on_is = on_is;
+      counts = counts_are laid tokens counters orders _ on_are raises;
+      ables = able_are laid tokens counters orders _ on_are raises poises.counters_low _ _ _ ready_is able_is;
+      low_set = low;
+      fires_it = fires_it;
+      tallied = tallied;
+    }
+
 pub returns : goal.returns
 returns c =
     let a = c.args in
     let poises = c.requires.poised in
     let settles = c.settle-settled.ensures in
-    let fall = c.fall-ready.ensures.raises in
+    let fall = c.fall-ready.ensures in
+    let seen = c.gather-seen.ensures in
     let orders : (t : ℕ)
     → bit (bit_and a.net.timed c.union.result) t
     ≡ (bit a.net.timed t && (bit c.fired-fired.result t || bit c.settle-settled.result.starved t)) =
@@ -33,40 +68,17 @@ returns c =
     c.less-on.result c.firable-able.result c.fired-fired.result c.tally-moved.new.taken c.tally-moved.new.put
     c.tally-moved.result =
     λ bs laid.
-    let on_are = on_bit laid _ _ _ _ _ poises.levels_hold c.gather-seen.ensures.held c.less-on.ensures in
-    record {
-      levels_hold = poises.levels_hold;
-      tokens_low = poises.tokens_low;
-      shut_is = c.gather-seen.ensures.held;
-      shown_is = c.gather-seen.ensures.shown;
-      on_is = c.less-on.ensures;
-      counts = counts_are laid a.tokens.now a.counters.now a.orders _ on_are fall;
-      ables =
-          able_are laid a.tokens.now a.counters.now a.orders _ on_are fall
-          poises.counters_low _ _ _ c.fall-ready.ensures.ready c.firable-able.ensures;
-      low_set = omega arith;
-      fires_it = c.fired-fired.ensures;
-      tallied = c.tally-moved.ensures;
-    } in
+    told_of laid poises a.orders a.word _ seen.held seen.shown c.less-on.ensures fall.raises fall.ready
+    c.firable-able.ensures (omega arith) c.fired-fired.ensures c.tally-moved.ensures in
     let laid = c.requires.laid in
     record {
       stepped = λ bs laid. stepped laid (told bs laid) settles (omega arith) (omega arith) _ orders;
       poised =
-          poised laid (told _ laid) settles fall.size
+          poised laid (told _ laid) settles fall.raises.size
           (counts_low laid a.tokens.now a.counters.now a.orders _
-          (on_bit laid _ _ _ _ _ poises.levels_hold c.gather-seen.ensures.held c.less-on.ensures) fall
-          poises.counters_low);
-      sizes = (settles.tokens_size, fall.size);
+          (on_bit laid _ _ _ _ _ poises.levels_hold seen.held c.less-on.ensures) fall.raises poises.counters_low);
+      sizes = (settles.tokens_size, fall.raises.size);
     }
-
-pub overflow_mul-n : goal.overflow_mul-n
-overflow_mul-n c = omega (arith, c.requires.laid.net_of.few)
-
-pub gather-seen-requires : goal.gather-seen-requires
-gather-seen-requires c = c.requires.laid.net_of.few
-
-pub fall-ready-requires : goal.fall-ready-requires
-fall-ready-requires c = c.requires.poised.counters_size
 
 pub firable-able-requires : goal.firable-able-requires
 firable-able-requires c = firable_asks c.requires.laid
@@ -106,26 +118,10 @@ tally-moved-requires c =
 pub settle-settled-requires : goal.settle-settled-requires
 settle-settled-requires c =
     let a = c.args in
-    let laid = c.requires.laid in
+    let fall = c.fall-ready.ensures in
+    let seen = c.gather-seen.ensures in
     let poises = c.requires.poised in
-    let on_are = on_bit laid _ _ _ _ _ poises.levels_hold c.gather-seen.ensures.held c.less-on.ensures in
-    let told :
-    Told laid a.tokens.now a.counters.now a.orders a.word a.kept.now a.levels.now
-    c.fall-ready.new.counters c.gather-seen.result.held c.gather-seen.result.actions
-    c.less-on.result c.firable-able.result c.fired-fired.result c.tally-moved.new.taken c.tally-moved.new.put
-    c.tally-moved.result =
-    record {
-      levels_hold = poises.levels_hold;
-      tokens_low = poises.tokens_low;
-      shut_is = c.gather-seen.ensures.held;
-      shown_is = c.gather-seen.ensures.shown;
-      on_is = c.less-on.ensures;
-      counts = counts_are laid a.tokens.now a.counters.now a.orders _ on_are c.fall-ready.ensures.raises;
-      ables =
-          able_are laid a.tokens.now a.counters.now a.orders _ on_are c.fall-ready.ensures.raises
-          poises.counters_low _ _ _ c.fall-ready.ensures.ready c.firable-able.ensures;
-      low_set = omega arith;
-      fires_it = c.fired-fired.ensures;
-      tallied = c.tally-moved.ensures;
-    } in
-    settle_asks laid told poises.tokens_size
+    settle_asks c.requires.laid
+    (told_of c.requires.laid poises a.orders a.word _ seen.held seen.shown c.less-on.ensures fall.raises fall.ready
+    c.firable-able.ensures (omega arith) c.fired-fired.ensures c.tally-moved.ensures)
+    poises.tokens_size

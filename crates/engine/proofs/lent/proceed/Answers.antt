@@ -1,28 +1,24 @@
 -- What is said of the lent bytes is the answer; where nothing is, what the cycles leave is what run leaves.
-use mathlib.Core.Path.{sym, ap, ◌∙◌}
-use Rattle.meaning.specs.Answer.{Answer}
+use Rattle.std.proofs.lemmas.Result.{err_from_is_err_and}
 use Rattle.engine.proofs.Runs.{plays, ready, refused_by_lent, ran_through}
 use Rattle.engine.proofs.lent.proceed.Goals as goal
 
-pub judge_lent-lent-requires : goal.judge_lent-lent-requires
-judge_lent-lent-requires c = c.requires.of.net_of.few
+pub returns-in_err-judge_lent : goal.returns-in_err-judge_lent
+returns-in_err-judge_lent c =
+    let gone = err_from_is_err_and c.from_residual.result c.from_residual.ensures.1 in
+    let said = c.in_err-judge_lent in
+    rw (gone.1, gone.2) (record { ran = λ bs of. refused_by_lent bs _ _ _ of said.field-0.0 said.ensures })
 
-pub returns-then-lent-ne0 : goal.returns-then-lent-ne0
-returns-then-lent-ne0 c =
-    record { ran = λ bs of. refused_by_lent bs _ _ _ of c.judge_lent-lent.ensures c.if-lent-ne0.true }
-
-pub play-told-requires : goal.play-told-requires
-play-told-requires c =
+pub play-requires : goal.play-requires
+play-requires c =
     let asks = c.requires in
-    let none = ap (λ (a : Answer). a.number) (sym c.judge_lent-lent.ensures) ∙ c.if-lent-ne0.false in
-    record { bs = asks.bs; of = plays asks.of (ready asks.bs _ _ _ asks.of none) }
+    record { bs = asks.bs; of = plays asks.of (ready asks.bs _ _ _ asks.of c.in_ok-judge_lent.ensures) }
 
 pub returns : goal.returns
 returns c =
-    let none = ap (λ (a : Answer). a.number) (sym c.judge_lent-lent.ensures) ∙ c.if-lent-ne0.false in
     record {
       ran =
           λ bs of.
-          ran_through bs _ _ _ of none c.play-told.result _ _ (c.play-told.ensures.ends bs (plays of (ready bs _ _ _
-          of none)));
+          let fine = c.in_ok-judge_lent.ensures in
+          ran_through bs _ _ _ of fine (c.play.ensures.ends bs (plays of (ready bs _ _ _ of fine)));
     }

@@ -14,7 +14,6 @@ use Rattle.summary.proofs.flow.moves.Goals as goal
 pub loop-r-init : goal.loop-r-init
 unfolding sum
 loop-r-init c = (
-  omega arith,
   length-replicate {A = ℕ} 128 0,
   λ p h. get_or-replicate {A = ℕ} 128 p 0 0 h,
   λ p h. omega (arith, get_or-replicate {A = ℕ} 128 p 0 0 h),
@@ -23,40 +22,30 @@ loop-r-init c = (
 pub shift-requires : goal.shift-requires
 unfolding table
 shift-requires c =
-    let turn = c in
-    let at = turn.loop-r in
-    let start = turn in
+    let at = c.loop-r in
     let x = c.read.ensures in
     record {
-      size = at.invariant.1;
+      size = at.invariant.0;
       low =
           λ k.
-          let low = start.requires.low_arcs at.r (omega (arith, turn.loop-r-test.true)) (sym x.kind ∙ k) in
+          let low = c.requires.low_arcs at.r (omega arith) (sym x.kind ∙ k) in
           (omega (arith, x.one, low.0), omega (arith, x.two, low.1));
-      room = λ p h. omega (
-        arith,
-        at.invariant.3 p h,
-        at.invariant.0,
-        start.requires.t_len_bound,
-        turn.loop-r-test.true,
-      );
+      room = λ p h. omega (arith, at.invariant.2 p h, c.requires.t_len_bound);
     }
 
 pub loop-r-preserved : goal.loop-r-preserved
 unfolding sum
 loop-r-preserved c =
-    let turn = c in
-    let at = turn.loop-r in
-    let a = turn.args in
+    let at = c.loop-r in
+    let a = c.args in
     let next : at.r + 1 ≡ suc at.r = add-one at.r in (
-      omega (arith, turn.loop-r-test.true),
       c.shift.ensures.size,
       λ p h.
           c.shift.ensures.adds p h
-          ∙ ap₂ (λ (m n : ℕ). m + n) (at.invariant.2 p h)
+          ∙ ap₂ (λ (m n : ℕ). m + n) (at.invariant.1 p h)
           (read_shift (table a.t.now) at.r a.sort a.s.now p _ c.read.ensures)
           ∙ ap (so_far a.t.now a.sort a.s.now p) (sym next),
-      λ p h. omega (arith, c.shift.ensures.most p h, at.invariant.3 p h),
+      λ p h. omega (arith, c.shift.ensures.most p h, at.invariant.2 p h),
     )
 
 pub returns : goal.returns
@@ -64,9 +53,9 @@ unfolding moved total table
 returns c =
     let at = c.loop-r in
     let a = c.args in
-    let all : at.r ≡ length a.t.now / 8 = omega (arith, at.invariant.0, c.loop-r-test.false) in
+    let all : at.r ≡ length a.t.now / 8 = omega arith in
     record {
-      size = at.invariant.1;
-      moves = λ p h. at.invariant.2 p h ∙ ap (so_far a.t.now a.sort a.s.now p) all;
-      most = λ p h. omega (arith, at.invariant.3 p h, all, c.requires.t_len_bound);
+      size = at.invariant.0;
+      moves = λ p h. at.invariant.1 p h ∙ ap (so_far a.t.now a.sort a.s.now p) all;
+      most = λ p h. omega (arith, at.invariant.2 p h, all, c.requires.t_len_bound);
     }

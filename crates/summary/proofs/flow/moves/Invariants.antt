@@ -1,7 +1,7 @@
 use mathlib.Core.Bool.{cond, ◌&&◌}
 use mathlib.Core.List.{List}
 use mathlib.Core.Path.{◌≡◌}
-use Prim.Native.Nat.{ℕ, ◌*◌, ◌-◌, ◌≤◌, ◌<◌}
+use Prim.Native.Nat.{ℕ, ◌*◌, ◌≤◌, ◌<◌}
 use lib.Dec.{eqb}
 use lib.ListN.{length, get_or}
 use Rattle.meaning.specs.Below.{sum}
@@ -17,9 +17,6 @@ so_far t sort s p r =
 
 abbrev pub invariant-loop-r : goal.invariant-loop-r
 invariant-loop-r l =
-    (l.r ≤ l.count) × (length l.moved ≡ 128)
+    (length l.moved ≡ 128)
     × ((p : ℕ) → p < 128 → get_or l.moved p 0 ≡ so_far l.t l.sort l.s p l.r)
     × ((p : ℕ) → p < 128 → get_or l.moved p 0 ≤ l.r * 281470681677825)
-
-abbrev pub decreases-loop-r : goal.decreases-loop-r
-decreases-loop-r l = l.count - l.r

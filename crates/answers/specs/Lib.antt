@@ -1,0 +1,2 @@
+-- What a refusal says, in the page's numbers.
+pub mod Numbered
