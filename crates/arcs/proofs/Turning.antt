@@ -3,7 +3,7 @@
 use mathlib.Core.Bool.{Bool, false, ◌&&◌}
 use mathlib.Core.List.{List}
 use mathlib.Core.Path.{◌≡◌, ap, ◌∙◌}
-use Prim.Native.Nat.{ℕ, ◌+◌, ◌*◌, ◌/◌, ◌%◌, ◌≤◌, ◌<◌}
+use Prim.Native.Nat.{ℕ, ◌+◌, ◌*◌, ◌/◌, ◌%◌, ◌<◌}
 use native.Mathlib.Omega.{arith}
 use lib.Dec.{eqb, ltb}
 use lib.ListN.{length, get_or, replicate, length-replicate}
@@ -13,7 +13,7 @@ use Rattle.meaning.specs.Bytes.{bit}
 use Rattle.rows.specs.Rows.{inputs, takers}
 use Rattle.sets.proofs.Bits.{bit_zero}
 use Rattle.sets.proofs.Rows.{all_zero}
-use Rattle.arcs.specs.Arcs.{rivals_of, Put, ArclessFrom, Turned}
+use Rattle.arcs.specs.Arcs.{rivals_of, Put}
 
 -- Of the five sets of transition t, the word that starts at set k has place q.
 abbrev pub has_place : List ℕ → ℕ → ℕ → ℕ → Bool
@@ -64,16 +64,4 @@ one_turned {rows} {arcs} {p} w low here is {between} {after} first second =
           let kept = first.holds t 4 u (omega arith) in
           let still = second.holds t 4 u (omega arith) in
           grind (arith, nat_tests, kept, still, w.no_rivals t u);
-    }
-
--- With the first n places turned, and none past them in an arc, all are.
-pub all_turned : {rows arcs : List ℕ} {n p : ℕ} → ArclessFrom n rows → n ≤ p → TurnedTo rows arcs p → Turned rows arcs
-all_turned {rows} {arcs} {n} {p} arcless past w =
-    record {
-      size = w.size;
-      low_is = λ t q h l. grind (arith, nat_tests, w.asks t q, arcless.no_input q t);
-      high_is = λ t q h l. grind (arith, nat_tests, w.asks t (64 + q), arcless.no_input (64 + q) t);
-      takes_low_is = λ t q h l. grind (arith, nat_tests, w.takes t q, arcless.no_taker q t);
-      takes_high_is = λ t q h l. grind (arith, nat_tests, w.takes t (64 + q), arcless.no_taker (64 + q) t);
-      no_rivals = λ t u h. w.no_rivals t u;
     }

@@ -16,6 +16,7 @@ fn reached(rows: &[u64], t: usize) -> u64
 {
     let mut all = rows[8 * t + BELOW];
     let mut left = all;
+    // The members left grow on the way, so that no walk over a set stands here.
     while let Some(k) = sets::lowest(left) {
         let more = sets::less(rows[8 * k + BELOW], all);
         all = sets::union(all, more);

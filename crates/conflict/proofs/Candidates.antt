@@ -1,29 +1,19 @@
 -- Candidate 64i + j is the pair i, j: its quotient by 64 is i and its remainder j.
 use mathlib.Core.Bool.{Bool, true, false, not, ◌&&◌}
 use mathlib.Core.List.{List}
-use mathlib.Core.Logic.{⊎_elim}
 use mathlib.Core.Path.{◌≡◌, ◌∙◌}
 use Prim.Native.Nat.{ℕ, ◌+◌, ◌-◌, ◌*◌, ◌/◌, ◌%◌, ◌≤◌, ◌<◌}
 use native.Mathlib.Omega.{arith}
-use lib.Dec.{ltb}
 use lib.ListN.{get_or}
 use Rattle.std.proofs.lemmas.Bool.Decides.{nat_tests}
-use borrow.Author.Tests.{ltb-true, ltb-false}
 use Rattle.meaning.specs.Below.{first}
 use Rattle.meaning.specs.Bytes.{bit}
-use Rattle.meaning.proofs.Bool.{either}
 use Rattle.meaning.proofs.Below.{first_is, first_none}
 use Rattle.conflict.specs.Settled.{settled_in, unsettled_by}
 
 -- No number below n passes.
 abbrev pub NoneBelow : (ℕ → Bool) → ℕ → Type 0
 NoneBelow f n = (k : ℕ) → k < n → f k ≡ false
-
--- A number is below n or it is not.
-below_or_not : {A : Type 0} (k n : ℕ) → (k < n → A) → (n ≤ k → A) → A
-below_or_not k n f g =
-    ⊎_elim (λ (t : ltb k n ≡ true). f (ltb-true k n t)) (λ (t : ltb k n ≡ false). g (ltb-false k n t))
-    (either (ltb k n))
 
 module _ (pairs rows : List ℕ) (w s : List (List ℕ)) (n : ℕ) where
   -- Candidate k, and the pair i, j: in conflict and not settled.

@@ -19,6 +19,7 @@ fn pair_up(pairs: &mut [u64; 64], takers: u64)
     ensures { PairedUp pairs.old takers pairs.new }
 {
     let mut others = sets::members(takers);
+    // Each turn reads what the walk has left, which a for keeps to itself.
     while let Some(i) = others.next() {
         pairs[i] = sets::union(pairs[i], others.left);
     }

@@ -1,7 +1,7 @@
 -- The same words from the same image come to the same: a cycle that was finished is finished again, with the same
 -- record; and what is left is the trace's.
 use mathlib.Core.List.{List, [], ◌∷◌, ◌++◌}
-use mathlib.Core.Path.{◌≡◌, refl, sym, ap, ap₂, ◌∙◌}
+use mathlib.Core.Path.{◌≡◌, refl, ap, ap₂, ◌∙◌}
 use Prim.Native.Nat.{ℕ, ◌*◌, ◌/◌, ◌<◌}
 use native.Mathlib.Omega.{arith}
 use lib.ListN.{length, drop}
@@ -9,14 +9,12 @@ use lib.Seq.{drop_at}
 use borrow.Author.Tests.{ne_eqb}
 use Rattle.std.specs.Prelude.{Result, Ok, Err, IsOk}
 use Rattle.meaning.specs.Table.{Table, table}
-use Rattle.meaning.specs.Image.{image_bytes}
 use Rattle.meaning.specs.Calls.{words_of, trace}
 use Rattle.meaning.specs.Steps.{Stays, Steps}
 use Rattle.meaning.specs.Cycle.{cycle}
 use Rattle.meaning.proofs.Finished.{steps_count, reached_once, words_length}
 use Rattle.meaning.proofs.Run.{trace_finishes, trace_bursts, written_length}
-use Rattle.state.specs.Holds.{held}
-use Rattle.turn.specs.declared.Net.{Net}
+use Rattle.rows.specs.declared.Net.{Net}
 use Rattle.answers.specs.declared.Refusal.TheVariants as Refusal
 use Rattle.cycles.specs.declared.Full.{Full}
 use Rattle.cycles.specs.Cycles.{all_words, CyclesOf, Done, Broke, Cycled, Ends}
@@ -43,37 +41,36 @@ module _ {bs img ws report : List ℕ} {count p : ℕ} {out : List ℕ} (broke :
       omega (arith, stays q other.bursts.0, other.bursts.1)
 
   -- So they all are.
-  pub all_again : {net : Net} {rows arcs times : List ℕ} {w s : List (List ℕ)} {heads posts : List ℕ}
-      {e : Result ℕ Full} {tokens counters out' : List ℕ}
-      → Cycled net img ws count out rows arcs times w s heads posts e tokens counters out'
-      → CyclesOf bs net img ws count out rows arcs times w s heads posts
-      → IsOk e × ((orders : ℕ) → e ≡ Ok orders
-      → Done bs img ws out (8 * net.eights) count tokens counters orders out')
-  all_again {e = Ok o} cycled of = (refl, λ orders q. let same : o ≡ orders = cc in rw (sym same) (cycled.comes bs of))
-  all_again {e = Err f} cycled of = let refusal = cycled.comes bs of in absurd (not_again refusal.0 refusal.1)
+  pub all_again : {net : Net} {e : Result Unit Full} {img₁ img' out' : List ℕ} → img₁ ≡ img
+      → Cycled net img₁ ws count out e img' out' → CyclesOf bs net img₁ ws count out
+      → IsOk e × Done bs img ws out count img' out'
+  all_again {e = Ok o} same cycled of = (refl, rw same at (cycled.comes bs of))
+  all_again {e = Err f} same cycled of =
+      let refusal = cycled.comes bs of in
+      absurd (not_again refusal.0 (rw same at refusal.1))
 
   bursting : trace (table bs) (all_words ws) img
       ≡ record { number = 13; at = p; cycles = count; image = broke.reached; written = broke.written }
   bursting = trace_bursts (table bs) broke.steps broke.bursts
 
   -- With none before it the image is as it was.
-  pub at_once : count ≡ 0 → Ends bs img ws report (Err (Refusal.Full p count)) img out
-  at_once none =
+  pub at_once : {img' : List ℕ} → img' ≡ img → count ≡ 0
+      → Ends bs img ws report (Err (Refusal.Full p count)) img' out
+  at_once same none =
       record {
         answer_is = rw bursting refl;
-        image_is = reached_once (Steps.none) (rw none at broke.steps) ∙ rw bursting refl;
+        image_is = same ∙ reached_once (Steps.none) (rw none at broke.steps) ∙ rw bursting refl;
         report_is = broke.out_is ∙ rw (bursting, written_length (table bs) broke.steps) refl;
       }
 
   -- With some before it the image is what they leave when they are done again, and their records are written again.
-  pub again : {n : ℕ} {tokens counters : List ℕ} {orders : ℕ} {img' out' : List ℕ} → ¬ (count ≡ 0)
-      → Done bs img ws out n count tokens counters orders out' → img' ≡ image_bytes (held tokens counters orders)
+  pub again : {img' out' : List ℕ} → ¬ (count ≡ 0) → Done bs img ws out count img' out'
       → Ends bs img ws report (Err (Refusal.Full p count)) img' out'
-  again some done saved =
+  again some done =
       record {
         answer_is = rw bursting refl;
         image_is =
-            saved ∙ rw (ne_eqb count 0 some) at done.image_is ∙ reached_once done.steps broke.steps
+            rw (ne_eqb count 0 some) at done.image_is ∙ reached_once done.steps broke.steps
             ∙ rw bursting refl;
         report_is = done.out_is ∙ twice ∙ rw (bursting, long) refl;
       }
@@ -97,14 +94,13 @@ none_left ws steps = empty _ (omega (arith, steps_count steps, words_length (len
     empty (x ∷ xs) e = absurd (omega (arith, e))
 
 -- Every word is done.
-pub all_done : {bs img ws report : List ℕ} {n : ℕ} {tokens counters : List ℕ} {orders : ℕ} {img' out : List ℕ}
-    → ¬ (length ws / 8 ≡ 0) → Done bs img ws report n (length ws / 8) tokens counters orders out
-    → img' ≡ image_bytes (held tokens counters orders)
+pub all_done : {bs img ws report img' out : List ℕ} → ¬ (length ws / 8 ≡ 0)
+    → Done bs img ws report (length ws / 8) img' out
     → Ends bs img ws report (Ok (length ws / 8)) img' out
-all_done {bs} {img} {ws} some done saved =
+all_done {bs} {img} {ws} some done =
     record {
       answer_is = rw finishing refl;
-      image_is = saved ∙ rw (ne_eqb (length ws / 8) 0 some) at done.image_is ∙ rw finishing refl;
+      image_is = rw (ne_eqb (length ws / 8) 0 some) at done.image_is ∙ rw finishing refl;
       report_is = done.out_is ∙ rw (finishing, written_length (table bs) done.steps) refl;
     }
   where

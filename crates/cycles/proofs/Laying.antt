@@ -18,7 +18,7 @@ use Rattle.rows.specs.Filed.{declares, limit_in, NetOf}
 use Rattle.rows.specs.Rows.{below, limit_of}
 use Rattle.rows.proofs.Few.{transitions_le, past}
 use Rattle.rows.proofs.Times.{latest_none}
-use Rattle.turn.specs.declared.Net.{Net}
+use Rattle.rows.specs.declared.Net.{Net}
 use Rattle.turn.specs.Turn.{Laid}
 use Rattle.turn.proofs.Rows.{no_bit}
 use Rattle.cycles.specs.Lay.{LayAsks, Lays}
@@ -66,14 +66,19 @@ module _ {bs : List ℕ} {n : ℕ} {rows : List ℕ} {w s : List (List ℕ)} {he
       }
 
 module _ {bs : List ℕ} {n known : ℕ} {img ws report rows times : List ℕ} {w s : List (List ℕ)} {heads posts : List ℕ}
-    (of : PlayOf bs n known img ws report rows times w s heads posts) {arcs : List ℕ} {net : Net}
-    (lays : Lays n known rows times arcs net) where
+    (given : PlayOf bs n known img ws report rows times w s heads posts) {net : Net}
+    (lays : Lays n known rows w s heads posts times net) where
+  -- The net has the table's arrays.
+  of : PlayOf bs n known img ws report net.rows.now net.times.now net.weights.now net.sorts.now net.heads.now
+      net.posts.now
+  of = rw (lays.rows_are, lays.times_are, lays.weights_are, lays.sorts_are, lays.heads_are, lays.posts_are) given
+
   -- The net's eights are no more than there is room for.
   fewer : net.eights ≤ of.eights
   fewer = omega (arith, lays.tight, of.enough)
 
   -- What is laid out is the table's.
-  laid : Laid bs net rows arcs times w s heads posts
+  laid : Laid bs net
   laid =
       record {
         declared = of.declared;
@@ -103,7 +108,7 @@ module _ {bs : List ℕ} {n known : ℕ} {img ws report rows times : List ℕ} {
 
   -- So many of the words can be done, into a report of the same length.
   cycles_of : (count : ℕ) (out : List ℕ) → count ≤ length ws / 8 → length out ≡ length report
-      → CyclesOf bs net img ws count out rows arcs times w s heads posts
+      → CyclesOf bs net img ws count out
   cycles_of count out most same =
       record {
         laid = laid;
@@ -115,14 +120,13 @@ module _ {bs : List ℕ} {n known : ℕ} {img ws report rows times : List ℕ} {
       }
 
   -- All of them can; and where one is refused those before it can be done again.
-  pub all_of : CyclesOf bs net img ws (length ws / 8) report rows arcs times w s heads posts
+  pub all_of : CyclesOf bs net img ws (length ws / 8) report
   all_of = cycles_of (length ws / 8) report (omega arith) refl
 
-  module _ {f : Full} {tokens counters out : List ℕ}
-      (cycled :
-      Cycled net img ws (length ws / 8) report rows arcs times w s heads posts (Err f) tokens counters out) where
-    pub refused : (f.done < length ws / 8) × Broke bs img ws report f.done f.place out
+  module _ {f : Full} {img' out : List ℕ}
+      (cycled : Cycled net img ws (length ws / 8) report (Err f) img' out) where
+    pub refused : (f.done < length ws / 8) × Broke bs img ws report f.done f.place out × (img' ≡ img)
     refused = cycled.comes bs all_of
 
-    pub again_of : length out ≡ length report → CyclesOf bs net img ws f.done out rows arcs times w s heads posts
-    again_of same = cycles_of f.done out (omega (arith, refused.0)) same
+    pub again_of : length out ≡ length report → CyclesOf bs net img' ws f.done out
+    again_of same = rw refused.2 (cycles_of f.done out (omega (arith, refused.0)) same)

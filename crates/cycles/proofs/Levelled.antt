@@ -6,58 +6,54 @@ use mathlib.Core.Path.{◌≡◌, refl, ◌∙◌}
 use Prim.Native.Nat.{ℕ, ◌+◌, ◌*◌, ◌^◌, ◌≤◌, ◌<◌}
 use native.Mathlib.Omega.{arith}
 use lib.Dec.{eqb, ltb}
-use lib.ListN.{length, get_or, replicate}
+use lib.ListN.{get_or}
 use borrow.Author.Tests.{eqb-true, eqb-false, ltb-true, ltb-false, eq-eqb}
 use Rattle.meaning.specs.Bytes.{bit}
 use Rattle.sets.proofs.Bits.{bit_zero, bit_out}
+use Rattle.rows.specs.declared.Net.{Net}
 use Rattle.rows.specs.Rows.{inputs}
 use Rattle.state.proofs.Read.{empty_row}
+use Rattle.levels.specs.declared.Kept.{Kept}
 use Rattle.levels.specs.Levels.{Spans, SpansAt, OnLevel, Levels, Relevelled}
+use Rattle.cycles.specs.Lay.{LevelAsks}
 
 -- Nothing is kept of place q.
-pub record Unkept (kept levels : List ℕ) (q : ℕ) : Type 0 where
-  pub no_held : get_or kept q 0 ≡ 0
-  pub no_active : get_or kept (128 + q) 0 ≡ 0
-  pub no_lacks : get_or kept (256 + q) 0 ≡ 0
-  pub no_from : get_or levels q 0 ≡ 0
-  pub no_upto : get_or levels (128 + q) 0 ≡ 0
+pub record Unkept (kept : Kept) (q : ℕ) : Type 0 where
+  pub no_held : get_or kept.held q 0 ≡ 0
+  pub no_active : get_or kept.active q 0 ≡ 0
+  pub no_lacks : get_or kept.lacks q 0 ≡ 0
+  pub no_from : get_or kept.from q 0 ≡ 0
+  pub no_upto : get_or kept.upto q 0 ≡ 0
 
 -- What is kept of place q holds for its tokens.
-pub record Made (rows : List ℕ) (w s : List (List ℕ)) (tokens kept levels : List ℕ) (q : ℕ) : Type 0 where
-  pub spans : SpansAt rows w s kept levels q
-  pub inside : OnLevel levels q (get_or tokens q 0)
+pub record Made (rows : List ℕ) (w s : List (List ℕ)) (tokens : List ℕ) (kept : Kept) (q : ℕ) : Type 0 where
+  pub spans : SpansAt rows w s kept q
+  pub inside : OnLevel kept q (get_or tokens q 0)
 
 -- The places before p are made.
-pub record Levelled (p : ℕ) (rows : List ℕ) (w s : List (List ℕ)) (tokens kept levels : List ℕ) : Type 0 where
-  pub kept_size : length kept ≡ 384
-  pub levels_size : length levels ≡ 384
-  pub made : (q : ℕ) → q < p → q < 128 → Made rows w s tokens kept levels q
-  pub unkept : (q : ℕ) → p ≤ q → q < 128 → Unkept kept levels q
+pub record Levelled (p : ℕ) (rows : List ℕ) (w s : List (List ℕ)) (tokens : List ℕ) (kept : Kept) : Type 0 where
+  pub made : (q : ℕ) → q < p → q < 128 → Made rows w s tokens kept q
+  pub unkept : (q : ℕ) → p ≤ q → q < 128 → Unkept kept q
 
 module _ {rows : List ℕ} {w s : List (List ℕ)} {tokens : List ℕ} where
   -- At first nothing is kept.
-  pub none_yet : {kept levels : List ℕ} → kept ≡ replicate 384 0 → levels ≡ replicate 384 0
-      → Levelled 0 rows w s tokens kept levels
-  none_yet {kept} {levels} none empty =
-      let k = empty_row 384 kept none in
-      let l = empty_row 384 levels empty in
+  pub none_yet : {net : Net} {kept : Kept} → LevelAsks net tokens kept → Levelled 0 rows w s tokens kept
+  none_yet asks =
       record {
-        kept_size = k.0;
-        levels_size = l.0;
         made = λ q h l. absurd (omega (arith, h));
         unkept = λ q h m. record {
-          no_held = k.1 q;
-          no_active = k.1 (128 + q);
-          no_lacks = k.1 (256 + q);
-          no_from = l.1 q;
-          no_upto = l.1 (128 + q);
+          no_held = (empty_row 128 _ asks.none_held).1 q;
+          no_active = (empty_row 128 _ asks.none_active).1 q;
+          no_lacks = (empty_row 128 _ asks.none_lacking).1 q;
+          no_from = (empty_row 128 _ asks.none_from).1 q;
+          no_upto = (empty_row 128 _ asks.none_upto).1 q;
         };
       }
 
   -- One more place is made.
-  module _ {p : ℕ} {kept levels kept' levels' : List ℕ} (before : Levelled p rows w s tokens kept levels)
-      (new : Relevelled p (get_or tokens p 0) rows w s kept levels kept' levels') where
-    still : (q : ℕ) → q < 128 → ¬ (q ≡ p) → Made rows w s tokens kept levels q → Made rows w s tokens kept' levels' q
+  module _ {p : ℕ} {kept kept' : Kept} (before : Levelled p rows w s tokens kept)
+      (new : Relevelled p (get_or tokens p 0) rows w s kept kept') where
+    still : (q : ℕ) → q < 128 → ¬ (q ≡ p) → Made rows w s tokens kept q → Made rows w s tokens kept' q
     still q h other m =
         let same = new.others q h other in
         record {
@@ -65,11 +61,9 @@ module _ {rows : List ℕ} {w s : List (List ℕ)} {tokens : List ℕ} where
           inside = rw (same.3, same.4) m.inside;
         }
 
-    pub one_more : Levelled (p + 1) rows w s tokens kept' levels'
+    pub one_more : Levelled (p + 1) rows w s tokens kept'
     one_more =
         record {
-          kept_size = new.kept_size;
-          levels_size = new.levels_size;
           made = λ q l h. go q h l (eqb q p) refl;
           unkept = λ q l h.
               let same = new.others q h (λ e. omega (arith, l, e)) in
@@ -83,14 +77,14 @@ module _ {rows : List ℕ} {w s : List (List ℕ)} {tokens : List ℕ} where
               };
         }
       where
-        go : (q : ℕ) → q < 128 → q < p + 1 → (b : Bool) → eqb q p ≡ b → Made rows w s tokens kept' levels' q
+        go : (q : ℕ) → q < 128 → q < p + 1 → (b : Bool) → eqb q p ≡ b → Made rows w s tokens kept' q
         go q h l true e = rw (eqb-true q p e) (record { spans = new.spans; inside = new.inside })
         go q h l false e =
             let other = eqb-false q p e in
             still q h other (before.made q (omega (arith, l, other)) h)
 
   -- From n on there is neither a token nor an input arc, so nothing is to be kept.
-  module _ {n : ℕ} {kept levels : List ℕ} (done : Levelled n rows w s tokens kept levels)
+  module _ {n : ℕ} {kept : Kept} (done : Levelled n rows w s tokens kept)
       (words : (i : ℕ) → get_or rows i 0 < 2 ^ 64)
       (no_token : (p : ℕ) → n ≤ p → p < 128 → get_or tokens p 0 ≡ 0)
       (no_arc : (p t : ℕ) → n ≤ p → p < 128 → t < 64 → bit (inputs rows p) t ≡ false) where
@@ -110,10 +104,10 @@ module _ {rows : List ℕ} {w s : List (List ℕ)} {tokens : List ℕ} where
           lacks_is = λ k a b t. bit_zero t ∙ rw (arcless p t l h);
         }
 
-    each : (p : ℕ) → p < 128 → Made rows w s tokens kept levels p
+    each : (p : ℕ) → p < 128 → Made rows w s tokens kept p
     each p h = go (ltb p n) refl
       where
-        go : (b : Bool) → ltb p n ≡ b → Made rows w s tokens kept levels p
+        go : (b : Bool) → ltb p n ≡ b → Made rows w s tokens kept p
         go true e = done.made p (ltb-true p n e) h
         go false e =
             let l = ltb-false p n e in
@@ -123,11 +117,9 @@ module _ {rows : List ℕ} {w s : List (List ℕ)} {tokens : List ℕ} where
               inside = rw (none.no_from, none.no_upto, no_token p l h) (omega arith, omega arith);
             }
 
-    pub all_levelled : Levels rows w s tokens kept levels
+    pub all_levelled : Levels rows w s tokens kept
     all_levelled =
         record {
-          kept_size = done.kept_size;
-          levels_size = done.levels_size;
           spans = λ p h. (each p h).spans;
           inside = λ p h. (each p h).inside;
         }

@@ -22,98 +22,93 @@ use Rattle.meaning.proofs.Accepted.{accepted_well}
 use Rattle.meaning.proofs.Fits.{Fits, counter_low, fits_after}
 use Rattle.meaning.proofs.Run.{full, below_full, full_bursts, written_length}
 use Rattle.meaning.proofs.Carried.{one_more, one_image, image_alike, after_alike, same_full, same_record_of}
-use Rattle.state.specs.Holds.{held, Holds, Small, IdlePast, SaveAsks}
+use Rattle.state.specs.declared.State.{State}
+use Rattle.state.specs.Records.{BlankPast}
+use Rattle.state.specs.Holds.{held, Small, IdlePast, LoadAsks, Loaded, SaveAsks}
 use Rattle.state.proofs.Past.{blank_past, idle_past}
 use Rattle.state.proofs.Fitted.{holds_alike}
-use Rattle.turn.specs.declared.Net.{Net}
+use Rattle.rows.specs.declared.Net.{Net}
+use Rattle.levels.specs.declared.Kept.{Kept}
+use Rattle.marking.specs.declared.Moves.{Moves}
 use Rattle.turn.specs.declared.Outcome.{Outcome}
 use Rattle.turn.specs.Turn.{Poised, Stepped}
 use Rattle.cycles.specs.Cycles.{all_words, CyclesOf, Done, Broke}
 use Rattle.numbers.proofs.Spelt.{words_from}
 
 -- After i turns: the meaning's run has reached an image, the arrays hold its state, and the report holds its records.
-pub record At (bs img ws report : List ℕ) (i : ℕ) (tokens counters : List ℕ) (orders : ℕ) (out : List ℕ) : Type 0 where
+pub record At (bs img ws report : List ℕ) (i : ℕ) (s : State) (out : List ℕ) : Type 0 where
   pub reached : List ℕ
   pub written : List ℕ
   pub steps : Steps (table bs) (all_words ws) img i (drop i (all_words ws)) reached written
-  pub image_is : cond (eqb i 0) img (image_bytes (held tokens counters orders)) ≡ reached
+  pub image_is : cond (eqb i 0) img (image_bytes (held s.tokens s.counters s.orders)) ≡ reached
   pub fits : Fits (table bs) (image reached)
-  pub alike : Alike (state (image reached)) (held tokens counters orders)
-  pub small : Small tokens counters
+  pub alike : Alike (state (image reached)) (held s.tokens s.counters s.orders)
+  pub small : Small s.tokens s.counters
   pub out_is : out ≡ written ++ drop (24 * i) report
 
--- So it is, whatever table the rows are of; and all is poised for the next turn.
-pub record Turned (net : Net) (img ws : List ℕ) (count : ℕ) (report rows arcs times : List ℕ) (w s : List (List ℕ))
-    (heads posts : List ℕ) (i : ℕ) (tokens counters : List ℕ) (orders : ℕ) (out kept levels taken put : List ℕ)
-    : Type 0 where
+-- So it is, whatever table the net is of; and all is poised for the next turn.
+pub record Turned (net : Net) (img ws : List ℕ) (count : ℕ) (report : List ℕ) (i : ℕ) (s : State) (out : List ℕ)
+    (kept : Kept) (moves : Moves) : Type 0 where
   pub within : i ≤ count
-  pub at : (bs : List ℕ) → CyclesOf bs net img ws count report rows arcs times w s heads posts
-      → At bs img ws report i tokens counters orders out
-  pub poised : Poised rows w s tokens counters kept levels taken put
+  pub at : (bs : List ℕ) → CyclesOf bs net img ws count report → At bs img ws report i s out
+  pub poised : Poised net s kept moves
 
-module _ {bs : List ℕ} {net : Net} {img ws : List ℕ} {count : ℕ} {report rows arcs times : List ℕ} {w s : List (List ℕ)}
-    {heads posts : List ℕ} (of : CyclesOf bs net img ws count report rows arcs times w s heads posts) where
+module _ {bs : List ℕ} {net : Net} {img ws : List ℕ} {count : ℕ} {report : List ℕ}
+    (of : CyclesOf bs net img ws count report) where
   -- The image that is lent fits.
-  pub fitting : Fits (table bs) (image img)
+  fitting : Fits (table bs) (image img)
   fitting k l = first_before 192 (wrong (table bs) (image img)) k (rw of.fits l)
+
+  blank : BlankPast (image img) (8 * net.eights)
+  blank = blank_past (table bs) of.laid.net_of.below (image img) fitting
+
+  -- Its state can be loaded.
+  pub load_asks : LoadAsks img (8 * net.eights)
+  load_asks = record { whole = of.whole; few = of.laid.net_of.few; blank = blank }
 
   well : Well (table bs)
   well = accepted_well bs of.laid.net_of.sound
 
   -- Before the first turn.
-  pub begins : {tokens counters : List ℕ} {orders : ℕ} → Holds tokens counters orders (state (image img))
-      → Small tokens counters → At bs img ws report 0 tokens counters orders report
-  begins holds small =
+  pub begins : {s : State} → Loaded img s → At bs img ws report 0 s report
+  begins loaded =
       record {
         reached = img;
         written = [];
         steps = Steps.none;
         image_is = refl;
         fits = fitting;
-        alike = holds_alike holds;
-        small = small;
+        alike = holds_alike loaded.holds;
+        small = loaded.small;
         out_is = refl;
       }
 
   -- Past the numbers of the table the arrays have nothing.
-  pub idle : {i : ℕ} {tokens counters : List ℕ} {orders : ℕ} {out : List ℕ}
-      → At bs img ws report i tokens counters orders out → IdlePast tokens counters (8 * net.eights)
-  idle {orders = orders} at =
-      idle_past (table bs) of.laid.net_of.below (image at.reached) at.fits orders at.alike
+  pub idle : {i : ℕ} {s : State} {out : List ℕ} → At bs img ws report i s out
+      → IdlePast s.tokens s.counters (8 * net.eights)
+  idle {s = s} at = idle_past (table bs) of.laid.net_of.below (image at.reached) at.fits s.orders at.alike
 
   -- After the last turn.
-  pub finished : {tokens counters : List ℕ} {orders : ℕ} {out : List ℕ}
-      → At bs img ws report count tokens counters orders out
-      → Done bs img ws report (8 * net.eights) count tokens counters orders out
-  finished at =
+  pub finished : {s : State} {img' out : List ℕ} → At bs img ws report count s out
+      → img' ≡ image_bytes (held s.tokens s.counters s.orders) → Done bs img ws report count img' out
+  finished at saved =
       record {
         left = drop count (all_words ws);
         reached = at.reached;
         written = at.written;
         steps = at.steps;
-        image_is = at.image_is;
-        small = at.small;
-        idle = idle at;
+        image_is = rw saved at.image_is;
         out_is = at.out_is;
       }
 
-  -- What they have left can be saved.
-  pub save_asks : {tokens counters : List ℕ} {orders : ℕ} {out : List ℕ}
-      → Done bs img ws report (8 * net.eights) count tokens counters orders out
-      → SaveAsks img tokens counters (8 * net.eights)
-  save_asks done =
-      record {
-        whole = of.whole;
-        few = of.laid.net_of.few;
-        small = done.small;
-        blank = blank_past (table bs) of.laid.net_of.below (image img) fitting;
-        idle = done.idle;
-      }
+  -- What the arrays hold can be saved.
+  pub save_asks : {i : ℕ} {s : State} {out : List ℕ} → At bs img ws report i s out → SaveAsks img s (8 * net.eights)
+  save_asks at =
+      record { whole = of.whole; few = of.laid.net_of.few; small = at.small; blank = blank; idle = idle at }
 
-  module _ {i : ℕ} {tokens counters : List ℕ} {orders : ℕ} {out : List ℕ}
-      (at : At bs img ws report i tokens counters orders out) (more : i < count) {word : ℕ}
-      (word_is : word ≡ number (take 8 (drop (8 * i) ws))) {r : Outcome} {tokens' counters' : List ℕ}
-      (step : Stepped (table bs) (held tokens counters orders) word r tokens' counters') where
+  module _ {i : ℕ} {s : State} {out : List ℕ} (at : At bs img ws report i s out) (more : i < count) {word : ℕ}
+      (word_is : word ≡ number (take 8 (drop (8 * i) ws))) {r : Outcome} {s' : State}
+      (step : Stepped (table bs) (held s.tokens s.counters s.orders) word r s') where
     next_word : Steps (table bs) (all_words ws) img i (word ∷ drop (suc i) (all_words ws)) at.reached at.written
     next_word = rw (word_is, sym (words_from (length ws / 8) i ws (omega (arith, more, of.enough)))) at.steps
 
@@ -122,7 +117,7 @@ module _ {bs : List ℕ} {net : Net} {img ws : List ℕ} {count : ℕ} {report r
     bursts {p} e =
         let found : (p < 128) × (first 128 _ ≡ p) = rw e at step.full_is in
         let full_is : p ≡ full (table bs) at.reached word =
-        sym found.1 ∙ same_full (table bs) well at.reached (held tokens counters orders) at.alike word in
+        sym found.1 ∙ same_full (table bs) well at.reached (held s.tokens s.counters s.orders) at.alike word in
         record {
           word = word;
           left = drop (suc i) (all_words ws);
@@ -136,13 +131,13 @@ module _ {bs : List ℕ} {net : Net} {img ws : List ℕ} {count : ℕ} {report r
     module _ (none : r.full ≡ None) where
       stays : Stays (table bs) at.reached word
       stays p l =
-          let same = same_full (table bs) well at.reached (held tokens counters orders) at.alike word in
+          let same = same_full (table bs) well at.reached (held s.tokens s.counters s.orders) at.alike word in
           below_full (table bs) at.reached word p (rw (sym same, rw none at step.full_is) l)
 
       -- The arrays hold the state after the cycle.
-      agree : Alike (cycle (table bs) at.reached word).after (held tokens' counters' r.orders)
+      agree : Alike (cycle (table bs) at.reached word).after (held s'.tokens s'.counters s'.orders)
       agree =
-          let same = after_alike (table bs) well at.reached (held tokens counters orders) at.alike word in
+          let same = after_alike (table bs) well at.reached (held s.tokens s.counters s.orders) at.alike word in
           record {
             tokens = λ p l. step.tokens_are p l ∙ same.tokens p l;
             counter = λ t l. step.counters_are t l ∙ same.counter t l;
@@ -160,7 +155,7 @@ module _ {bs : List ℕ} {net : Net} {img ws : List ℕ} {count : ℕ} {report r
       pub turned : {out' : List ℕ}
           → out' ≡ take (24 * i) out ++ (bytes 8 r.fired ++ bytes 8 r.actions ++ bytes 8 r.functions)
           ++ drop (24 * i + 24) out
-          → At bs img ws report (suc i) tokens' counters' r.orders out'
+          → At bs img ws report (suc i) s' out'
       turned e =
           record {
             reached = image_bytes (cycle (table bs) at.reached word).after;
@@ -193,7 +188,7 @@ module _ {bs : List ℕ} {net : Net} {img ws : List ℕ} {count : ℕ} {report r
               ≡ (cycle (table bs) at.reached word).written
           spelled =
               rw (step.fired_is, step.actions_are, step.functions_are)
-              (same_record_of (table bs) well at.reached (held tokens counters orders) at.alike word)
+              (same_record_of (table bs) well at.reached (held s.tokens s.counters s.orders) at.alike word)
 
           placed : take (24 * i) out ++ (bytes 8 r.fired ++ bytes 8 r.actions ++ bytes 8 r.functions)
               ++ drop (24 * i + 24) out

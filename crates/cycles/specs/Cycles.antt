@@ -1,16 +1,15 @@
 -- What a call brings to its cycles, and what they leave: the meaning's steps over its words.
-use Rattle.std.specs.Prelude.{cond, List, ◌∷◌, ◌++◌, ◌≡◌, ℕ, ◌*◌, ◌/◌, ◌≤◌, ◌<◌, eqb, length, drop, replicate}
+use Rattle.std.specs.Prelude.{cond, List, ◌∷◌, ◌++◌, ◌≡◌, ℕ, ◌*◌, ◌/◌, ◌^◌, ◌≤◌, ◌<◌, eqb, length, get_or, drop}
 use Rattle.std.specs.Prelude.{Result, MatchResult}
 use Rattle.meaning.specs.Below.{first}
 use Rattle.meaning.specs.Bytes.{bit}
 use Rattle.meaning.specs.Table.{table, transition}
-use Rattle.meaning.specs.Image.{image, image_bytes, wrong}
+use Rattle.meaning.specs.Image.{image, wrong}
 use Rattle.meaning.specs.Calls.{words_of, trace, Run, ran}
 use Rattle.meaning.specs.Steps.{Bursts, Steps}
 use Rattle.rows.specs.declared.Declared.{Declared}
+use Rattle.rows.specs.declared.Net.{Net}
 use Rattle.rows.specs.Filed.{Sizes, NetOf}
-use Rattle.state.specs.Holds.{held, Small, IdlePast}
-use Rattle.turn.specs.declared.Net.{Net}
 use Rattle.turn.specs.Turn.{Laid}
 use Rattle.answers.specs.declared.Refusal.{Refusal}
 use Rattle.answers.specs.Numbered.{run_told}
@@ -20,35 +19,29 @@ use Rattle.cycles.specs.declared.Full.{Full}
 abbrev pub all_words : List ℕ → List ℕ
 all_words ws = words_of (length ws / 8) ws
 
--- The rows are those of the accepted table that the bytes spell, which the image fits; there are so many words, and
--- room for their records.
-pub record CyclesOf (bs : List ℕ) (net : Net) (img ws : List ℕ) (count : ℕ) (report rows arcs times : List ℕ)
-    (w s : List (List ℕ)) (heads posts : List ℕ) : Type 0 where
-  pub laid : Laid bs net rows arcs times w s heads posts
+-- The net is that of the accepted table that the bytes spell, which the image fits; there are so many words, and room
+-- for their records.
+pub record CyclesOf (bs : List ℕ) (net : Net) (img ws : List ℕ) (count : ℕ) (report : List ℕ) : Type 0 where
+  pub laid : Laid bs net
   pub whole : length img ≡ 768
   pub fits : first 192 (wrong (table bs) (image img)) ≡ 192
   pub enough : 8 * count ≤ length ws
   pub few : count ≤ 512
   pub room : 24 * count ≤ length report
 
-pub record CyclesAsks (net : Net) (img ws : List ℕ) (count : ℕ) (report tokens counters rows arcs times : List ℕ)
-    (w s : List (List ℕ)) (heads posts : List ℕ) : Type 0 where
+pub record CyclesAsks (net : Net) (img ws : List ℕ) (count : ℕ) (report : List ℕ) : Type 0 where
   pub bs : List ℕ
-  pub of : CyclesOf bs net img ws count report rows arcs times w s heads posts
-  pub no_tokens : tokens ≡ replicate 128 0
-  pub no_counters : counters ≡ replicate 64 0
+  pub of : CyclesOf bs net img ws count report
+  pub words : (i : ℕ) → get_or net.rows.now i 0 < 2 ^ 64
 
--- So many cycles are finished: their image is the one lent where there is none, else that of the state that the arrays
--- hold, and their records stand in the report. From n on the arrays have nothing.
-pub record Done (bs img ws report : List ℕ) (n count : ℕ) (tokens counters : List ℕ) (orders : ℕ) (out : List ℕ)
-    : Type 0 where
+-- So many cycles are finished: where there are any the image is that of the last, and their records stand in the
+-- report.
+pub record Done (bs img ws report : List ℕ) (count : ℕ) (img' out : List ℕ) : Type 0 where
   pub left : List ℕ
   pub reached : List ℕ
   pub written : List ℕ
   pub steps : Steps (table bs) (all_words ws) img count left reached written
-  pub image_is : cond (eqb count 0) img (image_bytes (held tokens counters orders)) ≡ reached
-  pub small : Small tokens counters
-  pub idle : IdlePast tokens counters n
+  pub image_is : cond (eqb count 0) img img' ≡ reached
   pub out_is : out ≡ written ++ drop (24 * count) report
 
 -- So many cycles are finished, and the next is refused at place p.
@@ -61,12 +54,12 @@ pub record Broke (bs img ws report : List ℕ) (count p : ℕ) (out : List ℕ) 
   pub bursts : Bursts (table bs) reached word p
   pub out_is : out ≡ written ++ drop (24 * count) report
 
--- Whatever table the rows are of: all is done, or a cycle is refused.
-pub record Cycled (net : Net) (img ws : List ℕ) (count : ℕ) (report rows arcs times : List ℕ) (w s : List (List ℕ))
-    (heads posts : List ℕ) (e : Result ℕ Full) (tokens counters report' : List ℕ) : Type 0 where
-  pub comes : (bs : List ℕ) → CyclesOf bs net img ws count report rows arcs times w s heads posts
-      → MatchResult e (λ orders. Done bs img ws report (8 * net.eights) count tokens counters orders report')
-      (λ f. (f.done < count) × Broke bs img ws report f.done f.place report')
+-- Whatever table the net is of: all is done, or a cycle is refused, and the image is as it was.
+pub record Cycled (net : Net) (img ws : List ℕ) (count : ℕ) (report : List ℕ) (e : Result Unit Full)
+    (img' report' : List ℕ) : Type 0 where
+  pub comes : (bs : List ℕ) → CyclesOf bs net img ws count report
+      → MatchResult e (λ none. Done bs img ws report count img' report')
+      (λ f. (f.done < count) × Broke bs img ws report f.done f.place report' × (img' ≡ img))
 
 -- The image fits the table, the words are not too many, and the report has room for every one.
 pub record Ready (bs img ws report : List ℕ) : Type 0 where

@@ -2,11 +2,11 @@
 // the rising edge.
 #![tactic(auto)]
 
-ghost use Rattle.std.specs.Prelude.{true, ◌≡◌, ℕ, ◌<◌, length};
+ghost use Rattle.std.specs.Prelude.{true, ◌≡◌, ℕ, ◌<◌};
 ghost use Rattle.meaning.specs.Bytes.{bit};
 ghost use Rattle.edge.specs.Edges.{raised, in_span, as_asked, Raises, Ready, FirableAsks, Able};
 
-use rows::{FIRST, LAST, LIMIT, LOOKS, WANTED_TRUE};
+use rows::{FIRST, LAST, LIMIT, LOOKS, Net, WANTED_TRUE};
 
 // The counter of an enabled timed transition after the falling edge: with a reset order 1, else one more if below its
 // limit.
@@ -30,17 +30,17 @@ fn in_time(c: u32, first: u32, last: u32) -> bool
 
 // The counters of the timed transitions go through the falling edge; those of the others stay. The answer is who is
 // timed, enabled and in time.
-pub fn fall(counters: &mut [u32; 64], times: &[u32; 192], timed: u64, on: u64, orders: u64) -> u64
-    requires { length counters.old ≡ 64 }
-    ensures raises { Raises timed orders on times.now counters.old counters.new }
-    ensures ready { Ready timed on times.now counters.new result }
+#[tactic(auto, using(sets::proofs::Bits::bit_zero))]
+pub fn fall(net: &Net<'_>, counters: &mut [u32; 64], on: u64, orders: u64) -> u64
+    ensures raises { Raises net.now.timed orders on net.now.times.now counters.old counters.new }
+    ensures ready { Ready net.now.timed on net.now.times.now counters.new result }
 {
     let mut ready = 0u64;
-    for t in sets::members(timed) {
+    for t in sets::members(net.timed) {
         if sets::has(on, t) {
-            let c = counted(sets::has(orders, t), counters[t], times[3 * t + LIMIT]);
+            let c = counted(sets::has(orders, t), counters[t], net.times[3 * t + LIMIT]);
             counters[t] = c;
-            if in_time(c, times[3 * t + FIRST], times[3 * t + LAST]) {
+            if in_time(c, net.times[3 * t + FIRST], net.times[3 * t + LAST]) {
                 ready = sets::union(ready, sets::single(t));
             }
         } else {
@@ -59,13 +59,14 @@ fn asked(looks: u64, wanted: u64, word: u64) -> bool
 }
 
 // The firable: enabled and untimed, or ready, and the conditions as wanted, which are asked only where there are any.
-pub fn firable(on: u64, timed: u64, ready: u64, conditional: u64, rows: &[u64], word: u64) -> u64
-    requires { FirableAsks conditional rows.now }
-    ensures { Able on timed ready rows.now word result }
+#[tactic(auto, using(crate::proofs::Asking::sifting))]
+pub fn firable(net: &Net<'_>, on: u64, ready: u64, word: u64) -> u64
+    requires { FirableAsks net.now.conditional net.now.rows.now }
+    ensures { Able on net.now.timed ready net.now.rows.now word result }
 {
-    let mut able = sets::union(sets::less(on, timed), ready);
-    for t in sets::members(able & conditional) {
-        if !asked(rows[8 * t + LOOKS], rows[8 * t + WANTED_TRUE], word) {
+    let mut able = sets::union(sets::less(on, net.timed), ready);
+    for t in sets::members(able & net.conditional) {
+        if !asked(net.rows[8 * t + LOOKS], net.rows[8 * t + WANTED_TRUE], word) {
             able = sets::less(able, sets::single(t));
         }
     }

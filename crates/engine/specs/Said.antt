@@ -1,4 +1,4 @@
--- What the parts of a run say, in the words of the meaning.
+-- What the parts of a check and of a run ask and say, in the words of the meaning.
 use Rattle.std.specs.Prelude.{not, Result, List, ◌∷◌, ◌≡◌, ℕ, ◌*◌, ◌/◌, ◌≤◌, eqb, length}
 use Rattle.meaning.specs.Table.{table}
 use Rattle.meaning.specs.Answer as meaning

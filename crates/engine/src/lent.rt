@@ -5,7 +5,7 @@ ghost use Rattle.answers.specs.Numbered.{check_told};
 ghost use Rattle.engine.specs.Said.{lent_checks, ProceedAsks, Proceeds};
 
 use answers::Refusal;
-use rows::Declared;
+use rows::{Declared, Filed};
 
 // Answers 10, 11 and 12, by what the table declares and how far its counters rise. No number of the table is at n or
 // past it.
@@ -38,36 +38,20 @@ fn judge_lent(
     Ok(())
 }
 
-// run behind an accepted table, by the rows of its net: answers 10, 11 and 12, then one cycle a word.
+// run behind an accepted table, by what is filed of it: answers 10, 11 and 12, then one cycle a word.
 pub fn proceed(
     n: usize,
     known: Declared,
     image: &mut [u8],
     words: &[u8],
     report: &mut [u8],
-    rows: &[u64],
-    times: &[u32; 192],
-    w: &[[u16; 64]],
-    s: &[[u8; 64]],
-    heads: &[u16; 64],
-    posts: &[u16],
+    filed: &Filed<'_>,
 ) -> Result<usize, Refusal>
-    requires { ProceedAsks n known rows.now times.now w.now s.now heads.now posts.now }
-    ensures { Proceeds n known rows.now times.now w.now s.now heads.now posts.now image.old words.now report.old
-        result image.new report.new }
+    requires { ProceedAsks n known filed.now.rows.now filed.now.times.now filed.now.weights.now filed.now.sorts.now
+        filed.now.heads.now filed.now.posts.now }
+    ensures { Proceeds n known filed.now.rows.now filed.now.times.now filed.now.weights.now filed.now.sorts.now
+        filed.now.heads.now filed.now.posts.now image.old words.now report.old result image.new report.new }
 {
-    judge_lent(image, words, report, known, times, n)?;
-    cycles::play(
-        n,
-        known.transitions,
-        image,
-        words,
-        report,
-        rows,
-        times,
-        w,
-        s,
-        heads,
-        posts,
-    )
+    judge_lent(image, words, report, known, filed.times, n)?;
+    cycles::play(n, known.transitions, image, words, report, filed)
 }

@@ -12,6 +12,7 @@ ghost use Rattle.engine.specs.Said.{RoomFor};
 mod lent; // lent.rt: what is lent beside an accepted table
 
 use answers::Refusal;
+use rows::Filed;
 
 // Is the length no multiple of 8, or above 8,192?
 fn bad_length(t: &[u8]) -> bool
@@ -104,9 +105,15 @@ fn run_in<const ROWS: usize, const PLACES: usize, const LINKS: usize>(
     let known = judge::judge(
         t, n, &mut rows, &mut w, &mut s, &mut heads, &mut posts, &mut times,
     )?;
-    lent::proceed(
-        n, known, image, words, report, &rows, &times, &w, &s, &heads, &posts,
-    )
+    let filed = Filed {
+        rows: &rows,
+        weights: &w,
+        sorts: &s,
+        heads: &heads,
+        posts: &posts,
+        times: &times,
+    };
+    lent::proceed(n, known, image, words, report, &filed)
 }
 
 // run: answers 1 to 9, then 10, 11 and 12, then one cycle a word, and 13 at a cycle. A refusal before any cycle

@@ -115,12 +115,7 @@ module _ {able : ℕ} {m rows arcs : List ℕ} {w s : List (List ℕ)} {lower le
     abbrev keep : ℕ → ℕ → Bool
     keep = keeps m rows arcs w s
 
-    -- Whoever has none of those left for a rival does not wait.
-    free : (t : ℕ) → ((u : ℕ) → u < 64 → bit (rivals_of arcs t) u ≡ true → bit left u ≡ false)
-        → waits_for arcs left t ≡ false
-    free t none = none_intro 64 _ (λ u h. grind (arith, none u h))
-
-    -- And who does not wait has none of those left for a rival.
+    -- Who does not wait has none of those left for a rival.
     unled : (t u : ℕ) → u < 64 → waits_for arcs left t ≡ false → bit (rivals_of arcs t) u ≡ true → bit left u ≡ false
     unled t u h e a = rw a at (none_elim 64 (λ v. bit (rivals_of arcs t) v && bit left v) e u h)
 

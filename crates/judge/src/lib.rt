@@ -20,7 +20,7 @@ fn first_unknown(t: &[u8], rows: &[u64], known: Declared, n: usize) -> Option<us
     None
 }
 
-// Of no declared place and no declared transition the first that is so.
+// A refusal where no place is declared, or else where no transition is.
 fn first_none(known: Declared) -> Option<Refusal>
     ensures { FirstNone known result }
 {
@@ -55,8 +55,8 @@ pub fn judge(
     if let Some(record) = first_unknown(t, rows, known, n) {
         return Err(Refusal::Unknown { record });
     }
-    if let Some(none) = first_none(known) {
-        return Err(none);
+    if let Some(refusal) = first_none(known) {
+        return Err(refusal);
     }
     if let Some(name) = named::first_isolated(rows, known, n) {
         return Err(Refusal::Isolated { name });

@@ -1,3 +1,2 @@
--- The laws of walks over the members of a set, and of levels.
-pub mod Walk
+-- The laws of levels.
 pub mod Sides

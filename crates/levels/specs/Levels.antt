@@ -3,6 +3,7 @@
 use Rattle.std.specs.Prelude.{Bool, cond, not, ◌&&◌, ◌||◌, List, ◌≡◌, ℕ, ◌+◌, ◌*◌, ◌≤◌, ◌<◌, ltb, eqb, length, get_or}
 use Rattle.meaning.specs.Bytes.{bit}
 use Rattle.rows.specs.Rows.{inputs, actions, cell, stops}
+use Rattle.levels.specs.declared.Kept.{Kept}
 use Rattle.levels.specs.declared.Level.{Level}
 
 -- With k tokens on a place the arc of this weight and sort is a basic or test arc that finds less than its weight.
@@ -47,42 +48,35 @@ pub record Spans (rows : List ℕ) (w s : List (List ℕ)) (p held active lackin
   pub lacks_is : (k : ℕ) → from ≤ k → k ≤ upto → (t : ℕ)
       → bit lacking t ≡ (bit (inputs rows p) t && lacks (cell w p t) (cell s p t) k)
 
--- What is kept of place p, in the arrays of all places.
-abbrev pub SpansAt : List ℕ → List (List ℕ) → List (List ℕ) → List ℕ → List ℕ → ℕ → Type 0
-SpansAt rows w s kept levels p =
-    Spans rows w s p (get_or kept p 0) (get_or kept (128 + p) 0) (get_or kept (256 + p) 0) (get_or levels p 0)
-    (get_or levels (128 + p) 0)
+-- What is kept of place p.
+abbrev pub SpansAt : List ℕ → List (List ℕ) → List (List ℕ) → Kept → ℕ → Type 0
+SpansAt rows w s kept p =
+    Spans rows w s p (get_or kept.held p 0) (get_or kept.active p 0) (get_or kept.lacks p 0) (get_or kept.from p 0)
+    (get_or kept.upto p 0)
 
 -- So many tokens of place p are on its level.
-abbrev pub OnLevel : List ℕ → ℕ → ℕ → Type 0
-OnLevel levels p k = (get_or levels p 0 ≤ k) × (k ≤ get_or levels (128 + p) 0)
+abbrev pub OnLevel : Kept → ℕ → ℕ → Type 0
+OnLevel kept p k = (get_or kept.from p 0 ≤ k) × (k ≤ get_or kept.upto p 0)
 
 -- What is kept of each place holds for its tokens.
-pub record Levels (rows : List ℕ) (w s : List (List ℕ)) (m kept levels : List ℕ) : Type 0 where
-  pub kept_size : length kept ≡ 384
-  pub levels_size : length levels ≡ 384
-  pub spans : (p : ℕ) → p < 128 → SpansAt rows w s kept levels p
-  pub inside : (p : ℕ) → p < 128 → OnLevel levels p (get_or m p 0)
+pub record Levels (rows : List ℕ) (w s : List (List ℕ)) (m : List ℕ) (kept : Kept) : Type 0 where
+  pub spans : (p : ℕ) → p < 128 → SpansAt rows w s kept p
+  pub inside : (p : ℕ) → p < 128 → OnLevel kept p (get_or m p 0)
 
 -- Place p has its rows, and its tokens are below 2^31.
-pub record RelevelAsks (p tokens : ℕ) (rows : List ℕ) (w s : List (List ℕ)) (kept levels : List ℕ) : Type 0 where
+pub record RelevelAsks (p tokens : ℕ) (rows : List ℕ) (w s : List (List ℕ)) : Type 0 where
   pub place : p < 128
   pub tokens_low : tokens < 2147483647
   pub rows_there : 8 * p + 8 ≤ length rows
   pub weights_there : p < length w
   pub sorts_there : p < length s
-  pub kept_size : length kept ≡ 384
-  pub levels_size : length levels ≡ 384
 
 -- What is kept of place p holds for so many tokens, and of the others it is as it was; who left the level is as it was.
-pub record Relevelled (p tokens : ℕ) (rows : List ℕ) (w s : List (List ℕ)) (kept levels kept' levels' : List ℕ)
-    : Type 0 where
-  pub kept_size : length kept' ≡ 384
-  pub levels_size : length levels' ≡ 384
-  pub spans : SpansAt rows w s kept' levels' p
-  pub inside : OnLevel levels' p tokens
+pub record Relevelled (p tokens : ℕ) (rows : List ℕ) (w s : List (List ℕ)) (kept kept' : Kept) : Type 0 where
+  pub spans : SpansAt rows w s kept' p
+  pub inside : OnLevel kept' p tokens
   pub others : (q : ℕ) → q < 128 → ¬ (q ≡ p)
-      → (get_or kept' q 0 ≡ get_or kept q 0) × (get_or kept' (128 + q) 0 ≡ get_or kept (128 + q) 0)
-      × (get_or kept' (256 + q) 0 ≡ get_or kept (256 + q) 0)
-      × (get_or levels' q 0 ≡ get_or levels q 0) × (get_or levels' (128 + q) 0 ≡ get_or levels (128 + q) 0)
-  pub left : (q : ℕ) → q < 128 → get_or levels' (256 + q) 0 ≡ get_or levels (256 + q) 0
+      → (get_or kept'.held q 0 ≡ get_or kept.held q 0) × (get_or kept'.active q 0 ≡ get_or kept.active q 0)
+      × (get_or kept'.lacks q 0 ≡ get_or kept.lacks q 0) × (get_or kept'.from q 0 ≡ get_or kept.from q 0)
+      × (get_or kept'.upto q 0 ≡ get_or kept.upto q 0)
+  pub left : (q : ℕ) → q < 128 → get_or kept'.left q 0 ≡ get_or kept.left q 0

@@ -8,27 +8,28 @@ ghost use Rattle.meaning.specs.Below.{some};
 ghost use Rattle.meaning.specs.Bytes.{bit};
 ghost use Rattle.levels.specs.Levels.{lacks_of, Narrowed, LevelOf, RelevelAsks, Relevelled};
 
-use rows::{ACTIONS, INPUTS};
+use rows::{ACTIONS, INPUTS, Net};
 
-// Three sets for each place: whom it holds back at p, its active actions at ACTIVE + p, who lacks tokens there at
-// LACKS + p.
-pub const ACTIVE: usize = 128;
-
-pub const LACKS: usize = 256;
-
-// Three numbers for each place: its level from the number at p to that at UPTO + p, and at LEFT + p whether it left the
-// level.
-pub const UPTO: usize = 128;
-
-pub const LEFT: usize = 256;
+// What is kept of each place: whom it holds back, its active actions, who lacks tokens there; its level, from one
+// number to another; and whether it left the level.
+#[derive(Drop)]
+pub struct Kept {
+    pub held: [u64; 128],
+    pub active: [u64; 128],
+    pub lacks: [u64; 128],
+    pub from: [u32; 128],
+    pub upto: [u32; 128],
+    pub left: [u32; 128],
+}
 
 // Of those with these arcs from a place, who has a basic or test arc whose weight so many tokens do not reach.
+#[tactic(auto, using(sets::proofs::Bits::bit_zero))]
 pub fn lacking(tokens: u32, arcs: u64, w: &[u16; 64], s: &[u8; 64]) -> u64
     ensures { (t : ℕ) → bit result t ≡ (bit arcs t && lacks_of w.now s.now tokens t) }
 {
     let mut lacks = 0u64;
     for t in sets::members(arcs) {
-        if s[t] != 2 && tokens < numbers::wide(w[t]) {
+        if s[t] != 2 && tokens < u32::from(w[t]) {
             lacks = sets::union(lacks, sets::single(t));
         }
     }
@@ -50,7 +51,7 @@ fn narrowed(x: Level, tokens: u32, t: usize, weight: u16, sort: u8) -> Level
     requires { t < 64 }
     ensures { Narrowed tokens t weight sort x result }
 {
-    let wanted = weight as u32;
+    let wanted = u32::from(weight);
     if tokens < wanted {
         let upto = x.upto.min(wanted - 1);
         if sort == 2 {
@@ -76,6 +77,7 @@ fn narrowed(x: Level, tokens: u32, t: usize, weight: u16, sort: u8) -> Level
 }
 
 // The level of so many tokens at a place with these arcs. A place without a token is a level of its own.
+#[tactic(auto, using(sets::proofs::Bits::bit_zero))]
 pub fn level_of(tokens: u32, arcs: u64, w: &[u16; 64], s: &[u8; 64]) -> Level
     requires { tokens < 2147483647 }
     ensures { LevelOf tokens arcs w.now s.now result }
@@ -94,29 +96,25 @@ pub fn level_of(tokens: u32, arcs: u64, w: &[u16; 64], s: &[u8; 64]) -> Level
 }
 
 // What is kept of place p is made anew for so many tokens.
-pub fn relevel(
-    p: usize,
-    tokens: u32,
-    kept: &mut [u64; 384],
-    levels: &mut [u32; 384],
-    rows: &[u64],
-    w: &[[u16; 64]],
-    s: &[[u8; 64]],
-)
-    requires { RelevelAsks p tokens rows.now w.now s.now kept.old levels.old }
-    ensures { Relevelled p tokens rows.now w.now s.now kept.old
-        levels.old kept.new levels.new }
+pub fn relevel(net: &Net<'_>, p: usize, tokens: u32, kept: &mut Kept)
+    requires { RelevelAsks p tokens net.now.rows.now net.now.weights.now net.now.sorts.now }
+    ensures { Relevelled p tokens net.now.rows.now net.now.weights.now net.now.sorts.now kept.old kept.new }
 {
-    let x = level_of(tokens, rows[8 * p + INPUTS], &w[p], &s[p]);
-    kept[p] = x.held;
-    kept[ACTIVE + p] = if tokens == 0 {
+    let x = level_of(
+        tokens,
+        net.rows[8 * p + INPUTS],
+        &net.weights[p],
+        &net.sorts[p],
+    );
+    kept.held[p] = x.held;
+    kept.active[p] = if tokens == 0 {
         0
     } else {
-        rows[8 * p + ACTIONS]
+        net.rows[8 * p + ACTIONS]
     };
-    kept[LACKS + p] = x.lacks;
-    levels[p] = x.from;
-    levels[UPTO + p] = x.upto;
+    kept.lacks[p] = x.lacks;
+    kept.from[p] = x.from;
+    kept.upto[p] = x.upto;
 }
 
 // What all places together do: whom they hold back, and which actions they activate.
@@ -127,16 +125,17 @@ pub struct Seen {
 }
 
 // The same, of the first n places, by what is kept of them.
-pub fn gather(kept: &[u64; 384], n: usize) -> Seen
+#[tactic(auto, using(sets::proofs::Bits::bit_zero), unfolding(meaning::specs::Below::some))]
+pub fn gather(kept: &Kept, n: usize) -> Seen
     requires { n ≤ 128 }
-    ensures held { (t : ℕ) → bit result.held t ≡ some n (λ p. bit (get_or kept.now p 0) t) }
-    ensures shown { (k : ℕ) → bit result.actions k ≡ some n (λ p. bit (get_or kept.now (128 + p) 0) k) }
+    ensures held { (t : ℕ) → bit result.held t ≡ some n (λ p. bit (get_or kept.now.held p 0) t) }
+    ensures shown { (k : ℕ) → bit result.actions k ≡ some n (λ p. bit (get_or kept.now.active p 0) k) }
 {
     let mut held = 0u64;
     let mut actions = 0u64;
     for p in 0..n {
-        held = sets::union(held, kept[p]);
-        actions = sets::union(actions, kept[ACTIVE + p]);
+        held = sets::union(held, kept.held[p]);
+        actions = sets::union(actions, kept.active[p]);
     }
     Seen { held, actions }
 }

@@ -8,7 +8,8 @@ use native.Mathlib.Nat.{add-zero, mul-suc}
 use native.Mathlib.Omega.{arith}
 use lib.Dec.{ltb, eqb}
 use lib.ListN.{length, get_or}
-use borrow.Author.Tests.{eqb-true, eq-eqb, ne_eqb, ltb-true, lt-ltb, le-ltb}
+use borrow.Author.Tests.{eqb-true, ne_eqb, ltb-true, lt-ltb, le-ltb}
+use Rattle.std.proofs.lemmas.Bool.Decides.{nat_tests}
 use Rattle.meaning.specs.Below.{some, sum}
 use Rattle.meaning.specs.Bytes.{bit}
 use Rattle.meaning.specs.Table.{Table, total, post}
@@ -22,13 +23,21 @@ use Rattle.rows.proofs.Arcs.{link_le}
 use Rattle.marking.specs.Moves.{place_of, weight_of, next_of, given, put_at, Leads, Chains}
 use Rattle.marking.proofs.Chain.{given_none, given_arc}
 use Rattle.sets.proofs.Taking.{over}
-use Rattle.std.proofs.lemmas.Grind.{common_steps}
 
 -- A link is to a number below n that passes.
 link_passes : (n : ℕ) (f : ℕ → Bool) (k : ℕ) → link n f ≡ suc k → (k < n) × (f k ≡ true)
 unfolding link
 link_passes zero f k e = absurd (omega (arith, e))
-link_passes (suc n) f k e = grind (arith, common_steps, link_passes n f k)
+link_passes (suc n) f k e = go (f n) refl e (link_passes n f k)
+  where
+    go : (b : Bool) → f n ≡ b → cond b (suc n) (link n f) ≡ suc k → (link n f ≡ suc k → (k < n) × (f k ≡ true))
+        → (k < suc n) × (f k ≡ true)
+    go true q z before =
+        let same : n ≡ k = omega arith in
+        (omega arith, ap f (sym same) ∙ q)
+    go false q z before =
+        let w = before z in
+        (omega (arith, w.0), w.1)
 
 module _ {tb : Table} {r : ℕ} {heads posts : List ℕ} (posted : Posted tb r heads posts) where
   -- The chain from the link to the last post arc of t below n puts what the post arcs of t below n put.
@@ -94,7 +103,7 @@ nothing false = refl
 
 -- A sum of sums over the members is the sum of the two.
 over_add : (s : ℕ) (f g : ℕ → ℕ) → over s (λ t. f t + g t) ≡ over s f + over s g
-over_add s f g = sum_same 64 _ _ (λ t h. grind (arith, common_steps)) ∙ sum_add 64 _ _
+over_add s f g = sum_same 64 _ _ (λ t h. grind (arith, nat_tests)) ∙ sum_add 64 _ _
 
 -- Record k is a post arc to place p of a transition that fires.
 abbrev pub puts : Table → ℕ → ℕ → ℕ → Bool
@@ -107,9 +116,6 @@ module _ (tb : Table) (fired p : ℕ) where
       ≡ cond (puts tb fired p n) (tb.four n) 0
   one_puts n low = go (post tb n) refl
     where
-      own : (a b : Bool) (x : ℕ) → cond a (cond b x 0) 0 ≡ cond (b && a) x 0
-      own a b x = grind (arith, common_steps)
-
       go : (b : Bool) → post tb n ≡ b
           → over fired (λ t. cond (b && eqb (tb.two n) t && eqb (tb.one n) p) (tb.four n) 0)
           ≡ cond (b && eqb (tb.one n) p && bit fired (tb.two n)) (tb.four n) 0
@@ -117,7 +123,7 @@ module _ (tb : Table) (fired p : ℕ) where
           sum_one 64 (λ t. cond (bit fired t) (cond (eqb (tb.two n) t && eqb (tb.one n) p) (tb.four n) 0) 0)
           (tb.two n) (low e)
           (λ t h apart. rw (ne_eqb (tb.two n) t (λ z. apart (sym z))) (nothing (bit fired t)))
-          ∙ rw (eq-eqb (tb.two n) (tb.two n) refl) (own (bit fired (tb.two n)) (eqb (tb.one n) p) (tb.four n))
+          ∙ grind (arith, nat_tests)
       go false e = sum_zero 64 _ (λ t h. nothing (bit fired t))
 
   -- The records below n put what they put with each transition.
@@ -160,7 +166,7 @@ put_low {tb} {r} posted low few small fired p =
     rw (put_is posted low fired p) (omega (
       arith,
       sum_mono r (λ k. cond (puts tb fired p k) (tb.four k) 0) (λ k. 65535)
-          (λ k h. grind (arith, common_steps, small k h)),
+          (λ k h. grind (arith, nat_tests, small k h)),
       sum_same_all r 65535,
     ))
 

@@ -1,13 +1,16 @@
 -- A chain of post arcs puts what its first arc puts and what the rest of it puts.
 use mathlib.Core.Bool.{cond}
 use mathlib.Core.List.{List}
+use mathlib.Core.Logic.{⊎_elim}
 use mathlib.Core.Path.{◌≡◌, refl, ap}
 use Prim.Native.Nat.{ℕ, zero, suc, ◌+◌, ◌≤◌, ◌<◌}
+use native.Mathlib.Nat.{eq-or-lt_of_le}
 use native.Mathlib.Omega.{arith}
 use lib.Dec.{eqb}
 use lib.ListN.{length, get_or, set}
-use borrow.Author.Tests.{eq-eqb}
-use Rattle.std.proofs.lemmas.Grind.{common_steps}
+use lib.Seq.{get_or-set_same, get_or-set_other}
+use borrow.Author.Tests.{eq-eqb, ne_eqb}
+use Rattle.std.proofs.lemmas.Bool.Decides.{nat_tests}
 use Rattle.marking.specs.Moves.{place_of, weight_of, next_of, given_upto, given}
 
 -- Going down from any number that is not below the link finds the same chain.
@@ -16,7 +19,12 @@ unfolding given_upto
 found zero posts at p h =
     let none : at ≡ 0 = omega arith in
     rw none
-found (suc n) posts at p h = grind (arith, common_steps, found n posts at p)
+found (suc n) posts at p h =
+    ⊎_elim (λ (e : at ≡ suc n). rw e)
+    (λ (l : at < suc n).
+    let apart : ¬ (at ≡ suc n) = λ e. omega arith in
+    rw (ne_eqb at (suc n) apart) (found n posts at p (omega arith)))
+    (eq-or-lt_of_le h)
 
 -- No arc puts nothing.
 pub given_none : (posts : List ℕ) (at p : ℕ) → at ≡ 0 → given posts at p ≡ 0
@@ -37,4 +45,12 @@ pub one_given : (posts put : List ℕ) (at k : ℕ) (weight : ℕ) → at ≡ su
     → get_or (set put (place_of posts k) (get_or put (place_of posts k) 0 + weight)) p 0
     + given posts (next_of posts k) p
     ≡ get_or put p 0 + given posts at p
-one_given posts put at k weight e down there is p = grind (arith, common_steps, given_arc posts at k p e down)
+one_given posts put at k weight e down there is p =
+    grind (
+      arith,
+      nat_tests,
+      is,
+      get_or-set_same put (place_of posts k) (get_or put (place_of posts k) 0 + weight) 0 there,
+      get_or-set_other put (place_of posts k) p (get_or put (place_of posts k) 0 + weight) 0,
+      given_arc posts at k p e down,
+    )

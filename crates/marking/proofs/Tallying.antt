@@ -1,30 +1,29 @@
 -- A turn of the tally: one member takes at its places, low and high, and puts what its chain has, so what is moved and
 -- what the others are still to move stays the same.
-use mathlib.Core.Bool.{Bool, true, false, cond, ◌&&◌, ◌||◌, or_assoc}
+use mathlib.Core.Bool.{Bool, true, cond, ◌&&◌, ◌||◌, or_assoc}
 use mathlib.Core.List.{List}
-use mathlib.Core.Path.{◌≡◌, refl, sym, ap, ap₂, ◌∙◌}
+use mathlib.Core.Path.{◌≡◌, sym, ap, ap₂, ◌∙◌}
 use Prim.Native.Nat.{ℕ, ◌+◌, ◌-◌, ◌≤◌, ◌<◌}
 use native.Mathlib.Nat.{zero-add}
 use native.Mathlib.Omega.{arith}
-use lib.Dec.{ltb}
-use lib.ListN.{length, get_or}
-use borrow.Author.Tests.{ltb-true, ltb-false}
+use lib.ListN.{get_or}
+use Rattle.std.proofs.lemmas.Bool.Decides.{nat_tests}
 use Rattle.meaning.specs.Below.{some}
 use Rattle.meaning.specs.Bytes.{bit}
 use Rattle.meaning.proofs.Bool.{and_left}
 use Rattle.meaning.proofs.Below.{some_same, sum_same, sum_part}
-use Rattle.std.proofs.lemmas.Grind.{common_steps}
 use Rattle.sets.specs.Walk.{Taken}
 use Rattle.sets.proofs.Bits.{bit_zero}
 use Rattle.sets.proofs.Taking.{over, over_less}
 use Rattle.sets.proofs.Some.{some_split}
 use Rattle.rows.specs.Rows.{takers, functions, cell, taken_at}
+use Rattle.levels.specs.declared.Kept.{Kept}
 use Rattle.marking.specs.declared.Moved.{Moved}
 use Rattle.marking.specs.Moves.{lacking_at, given, put_at, Took, Gave, Tallied}
 use Rattle.marking.proofs.Walk.{any, gathers, over_none, all_gathered, over_most, by_places}
 
 -- Who lacks tokens at a place from which transition t takes.
-abbrev pub lacks_by : List ℕ → List ℕ → ℕ → ℕ → Bool
+abbrev pub lacks_by : List ℕ → Kept → ℕ → ℕ → Bool
 lacks_by rows kept j t = some 128 (λ p. bit (takers rows p) t && bit (lacking_at kept p) j)
 
 -- What transition t takes at place p.
@@ -32,63 +31,52 @@ abbrev pub takes_by : List ℕ → List (List ℕ) → ℕ → ℕ → ℕ
 takes_by rows w p t = cond (bit (takers rows p) t) (cell w p t) 0
 
 -- What transition u took at each place, and who lacks tokens there, in two sets.
-pub record Own (u : ℕ) (rows : List ℕ) (w : List (List ℕ)) (kept taken taken' : List ℕ) (low high : ℕ) : Type 0 where
-  pub size : length taken' ≡ 128
+pub record Own (u : ℕ) (rows : List ℕ) (w : List (List ℕ)) (kept : Kept) (taken taken' : List ℕ) (low high : ℕ)
+    : Type 0 where
   pub takes : (p : ℕ) → p < 128 → get_or taken' p 0 ≡ get_or taken p 0 + takes_by rows w p u
   pub at_most : (p : ℕ) → p < 128 → get_or taken' p 0 ≤ get_or taken p 0 + 65535
   pub lack_is : (j : ℕ) → (bit low j || bit high j) ≡ lacks_by rows kept j u
 
 -- The places 0 to 63 and then those from 64 on: all places.
-pub both_halves : {u word word' : ℕ} {rows : List ℕ} {w : List (List ℕ)} {kept taken taken' taken'' : List ℕ}
-    {low high : ℕ}
+pub both_halves : {u word word' : ℕ} {rows : List ℕ} {w : List (List ℕ)} {kept : Kept}
+    {taken taken' taken'' : List ℕ} {low high : ℕ}
     → ((p : ℕ) → p < 64 → bit word p ≡ bit (takers rows p) u)
     → ((p : ℕ) → p < 64 → bit word' p ≡ bit (takers rows (64 + p)) u)
     → Took word 0 u w kept taken taken' low → Took word' 64 u w kept taken' taken'' high
     → Own u rows w kept taken taken'' low high
 both_halves {u} {word} {word'} {rows} {w} {kept} {taken} {taken'} {taken''} {low} {high} low_is high_is first second =
     record {
-      size = second.size;
-      takes = λ p h. takes p h (ltb p 64) refl;
-      at_most = λ p h. at_most p h (ltb p 64) refl;
+      takes = λ p h.
+          let there : 64 ≤ p → 64 + (p - 64) ≡ p = λ l. omega arith in
+          grind (
+            arith,
+            there,
+            low_is p,
+            high_is (p - 64),
+            first.takes p,
+            first.behind p,
+            second.before p,
+            second.takes (p - 64),
+          );
+      at_most = λ p h.
+          let there : 64 ≤ p → 64 + (p - 64) ≡ p = λ l. omega arith in
+          grind (arith, there, first.at_most p, first.behind p, second.before p, second.at_most (p - 64));
       lack_is = λ j.
           ap₂ (λ (a b : Bool). a || b)
           (first.lack_is j ∙ some_same 64 _ _ (λ p h. rw (zero-add p, low_is p h)))
           (second.lack_is j ∙ some_same 64 _ _ (λ p h. rw (high_is p h)))
           ∙ sym (some_split 64 64 (λ p. bit (takers rows p) u && bit (lacking_at kept p) j));
     }
-  where
-    takes : (p : ℕ) → p < 128 → (b : Bool) → ltb p 64 ≡ b → get_or taken'' p 0 ≡ get_or taken p 0 + takes_by rows w p u
-    takes p h true e =
-        let l = ltb-true p 64 e in
-        second.before p l ∙ rw (zero-add p, low_is p l) at (first.takes p l)
-    takes p h false e =
-        let l = ltb-false p 64 e in
-        let q : ℕ = p - 64 in
-        let same : 64 + q ≡ p = omega arith in
-        let there : get_or taken'' (64 + q) 0 ≡ get_or taken' (64 + q) 0 + takes_by rows w (64 + q) u =
-        rw (high_is q (omega arith)) at (second.takes q (omega arith)) in
-        rw same at there ∙ ap (λ (x : ℕ). x + takes_by rows w p u) (first.behind p (omega arith))
-
-    at_most : (p : ℕ) → p < 128 → (b : Bool) → ltb p 64 ≡ b → get_or taken'' p 0 ≤ get_or taken p 0 + 65535
-    at_most p h true e =
-        let l = ltb-true p 64 e in
-        rw (second.before p l) (rw (zero-add p) at (first.at_most p l))
-    at_most p h false e =
-        let l = ltb-false p 64 e in
-        let q : ℕ = p - 64 in
-        let same : 64 + q ≡ p = omega arith in
-        omega (arith, rw same at (second.at_most q (omega arith)), first.behind p (omega arith))
 
 -- What a set takes is what its members take.
 taken_over : (s : ℕ) (rows : List ℕ) (w : List (List ℕ)) (p : ℕ) → taken_at s rows w p ≡ over s (takes_by rows w p)
-taken_over s rows w p = sum_same 64 _ _ (λ t h. grind (arith, common_steps))
+taken_over s rows w p =
+    sum_same 64 _ _ (λ t h. grind (arith, nat_tests))
 
 -- The members of `left` are still to be tallied.
-pub record Tallying (fired : ℕ) (rows : List ℕ) (w : List (List ℕ)) (heads posts kept taken put : List ℕ)
-    (done lack left : ℕ) : Type 0 where
+pub record Tallying (fired : ℕ) (rows : List ℕ) (w : List (List ℕ)) (heads posts : List ℕ) (kept : Kept)
+    (taken put : List ℕ) (done lack left : ℕ) : Type 0 where
   pub within : (t : ℕ) → bit left t ≡ true → bit fired t ≡ true
-  pub taken_size : length taken ≡ 128
-  pub put_size : length put ≡ 128
   pub takes : (p : ℕ) → p < 128 → get_or taken p 0 + over left (takes_by rows w p) ≡ over fired (takes_by rows w p)
   pub taken_low : (p : ℕ) → p < 128 → get_or taken p 0 + over left (λ t. 65535) ≤ 4194240
   pub puts : (p : ℕ) → p < 128 → get_or put p 0 + put_at left heads posts p ≡ put_at fired heads posts p
@@ -96,16 +84,14 @@ pub record Tallying (fired : ℕ) (rows : List ℕ) (w : List (List ℕ)) (heads
       ≡ any fired (λ t. bit (functions rows t) k)
   pub lack_is : (j : ℕ) → (bit lack j || any left (lacks_by rows kept j)) ≡ any fired (lacks_by rows kept j)
 
-module _ {fired : ℕ} {rows : List ℕ} {w : List (List ℕ)} {heads posts kept : List ℕ} where
+module _ {fired : ℕ} {rows : List ℕ} {w : List (List ℕ)} {heads posts : List ℕ} {kept : Kept} where
   -- At first all members are still to be tallied.
-  pub begins : {taken put : List ℕ} → length taken ≡ 128 → length put ≡ 128
+  pub begins : {taken put : List ℕ}
       → ((p : ℕ) → p < 128 → get_or taken p 0 ≡ 0)
       → ((p : ℕ) → p < 128 → get_or put p 0 ≡ 0) → Tallying fired rows w heads posts kept taken put 0 0 fired
-  begins taken_size put_size none_taken none_put =
+  begins none_taken none_put =
       record {
         within = λ t e. e;
-        taken_size = taken_size;
-        put_size = put_size;
         takes = λ p h. rw (none_taken p h) (zero-add _);
         taken_low = λ p h. rw (none_taken p h, zero-add) (over_most fired);
         puts = λ p h. rw (none_put p h) (zero-add _);
@@ -120,8 +106,6 @@ module _ {fired : ℕ} {rows : List ℕ} {w : List (List ℕ)} {heads posts kept
         → Tallied fired rows w heads posts kept taken put y
     ends y df dl e =
         record {
-          taken_size = x.taken_size;
-          put_size = x.put_size;
           taken_is =
               λ p h. omega (arith, x.takes p h, over_none left (takes_by rows w p) e, taken_over fired rows w p);
           put_is = λ p h. omega (arith, x.puts p h, over_none left (λ t. given posts (get_or heads t 0) p) e);
@@ -152,8 +136,6 @@ module _ {fired : ℕ} {rows : List ℕ} {w : List (List ℕ)} {heads posts kept
     one_tallied {u} {rest} turn {taken'} {put'} {low} {high} {done'} {lack'} own gave gives joins =
         record {
           within = λ t e. x.within t (and_left (bit left t) _ (sym (turn.less t) ∙ e));
-          taken_size = own.size;
-          put_size = gave.size;
           takes =
               λ p h. omega (
                 arith,

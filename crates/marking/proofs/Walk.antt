@@ -1,16 +1,16 @@
 -- A walk over the members of a set, the lowest first: the member at hand and what is left add up to what was left.
-use mathlib.Core.Bool.{Bool, true, cond, ◌&&◌, ◌||◌, or-false, or_assoc}
+use mathlib.Core.Bool.{Bool, true, false, cond, ◌&&◌, ◌||◌, or-false, or_assoc}
 use mathlib.Core.Logic.{⊎_elim}
 use mathlib.Core.Path.{◌≡◌, sym, ap, ◌∙◌}
 use Prim.Native.Nat.{ℕ, ◌≤◌}
 use native.Mathlib.Omega.{arith}
 use lib.Dec.{eqb}
 use borrow.Author.Tests.{eqb-true}
+use Rattle.std.proofs.lemmas.Bool.Decides.{nat_tests}
 use Rattle.meaning.specs.Below.{some, sum}
 use Rattle.meaning.specs.Bytes.{bit}
 use Rattle.meaning.proofs.Bool.{and_left, and_right, and_true as both, or_true_left, or_true_right, or_cases, same_test}
 use Rattle.meaning.proofs.Below.{some_intro, some_elim, none_intro, sum_zero, sum_mono}
-use Rattle.std.proofs.lemmas.Grind.{common_steps}
 use Rattle.sets.specs.Walk.{Taken}
 use Rattle.sets.proofs.Bits.{bit_zero}
 use Rattle.sets.proofs.Taking.{over}
@@ -23,7 +23,7 @@ any s f = some 64 (λ t. bit s t && f t)
 module _ {left k rest : ℕ} (turn : Taken left k rest) where
   -- The set has the member and the others.
   with_others : (j : ℕ) → bit left j ≡ (bit rest j || eqb k j)
-  with_others j = grind (arith, common_steps, turn.less j, turn.member)
+  with_others j = grind (arith, nat_tests, turn.less j, turn.member)
 
   -- Some member passes f: the member does, or one of the others.
   any_less : (f : ℕ → Bool) → any left f ≡ (f k || any rest f)
@@ -68,7 +68,11 @@ all_gathered left f b e before =
 -- A set has at most 64 members.
 pub over_most : (s : ℕ) → over s (λ t. 65535) ≤ 4194240
 unfolding sum
-over_most s = sum_mono 64 (λ t. cond (bit s t) 65535 0) (λ t. 65535) (λ k h. grind (arith, common_steps))
+over_most s = sum_mono 64 (λ t. cond (bit s t) 65535 0) (λ t. 65535) (λ k h. at_most (bit s k))
+  where
+    at_most : (b : Bool) → cond b 65535 0 ≤ 65535
+    at_most true = omega arith
+    at_most false = omega arith
 
 -- A member of a set is at a place that passes: some place is one of a member's, and passes.
 pub by_places : (s : ℕ) (at : ℕ → ℕ → Bool) (f : ℕ → Bool)

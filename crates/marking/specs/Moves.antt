@@ -4,11 +4,12 @@ use Rattle.meaning.specs.Below.{some, sum}
 use Rattle.meaning.specs.Bytes.{bit}
 use Rattle.rows.specs.Rows.{takers, functions, cell, taken_at}
 use Rattle.arcs.specs.Arcs.{takes_low, takes_high}
+use Rattle.levels.specs.declared.Kept.{Kept}
 use Rattle.marking.specs.declared.Moved.{Moved}
 
 -- Who lacks tokens at place p, by what is kept of it.
-abbrev pub lacking_at : List ℕ → ℕ → ℕ
-lacking_at kept p = get_or kept (256 + p) 0
+abbrev pub lacking_at : Kept → ℕ → ℕ
+lacking_at kept p = get_or kept.lacks p 0
 
 -- Of post arc k: its place, its weight, and the link to the next arc of its transition.
 abbrev pub place_of : List ℕ → ℕ → ℕ
@@ -41,13 +42,12 @@ put_at fired heads posts p = sum 64 (λ t. cond (bit fired t) (given posts (get_
 pub record TakeAsks (word from u : ℕ) (taken : List ℕ) (w : List (List ℕ)) : Type 0 where
   pub half : from ≤ 64
   pub transition : u < 64
-  pub size : length taken ≡ 128
   pub weights_there : (p : ℕ) → p < 64 → bit word p ≡ true → from + p < length w
   pub room : (p : ℕ) → p < 64 → get_or taken (from + p) 0 ≤ 4294901760
 
 -- Transition u took its weight at each place of the word, and nothing elsewhere; the set has who lacks tokens there.
-pub record Took (word from u : ℕ) (w : List (List ℕ)) (kept taken taken' : List ℕ) (lack : ℕ) : Type 0 where
-  pub size : length taken' ≡ 128
+pub record Took (word from u : ℕ) (w : List (List ℕ)) (kept : Kept) (taken taken' : List ℕ) (lack : ℕ)
+    : Type 0 where
   pub takes : (p : ℕ) → p < 64
       → get_or taken' (from + p) 0 ≡ get_or taken (from + p) 0 + cond (bit word p) (cell w (from + p) u) 0
   pub at_most : (p : ℕ) → p < 64 → get_or taken' (from + p) 0 ≤ get_or taken (from + p) 0 + 65535
@@ -72,20 +72,16 @@ pub record Chains (posts : List ℕ) : Type 0 where
 pub record GiveAsks (link : ℕ) (put posts : List ℕ) : Type 0 where
   pub chains : Chains posts
   pub begins : Leads chains.arc link
-  pub size : length put ≡ 128
   pub room : (p : ℕ) → p < 128 → get_or put p 0 + given posts link p < 4294967296
 
 -- The chain put what it has at each place.
 pub record Gave (link : ℕ) (posts put put' : List ℕ) : Type 0 where
-  pub size : length put' ≡ 128
   pub puts : (p : ℕ) → p < 128 → get_or put' p 0 ≡ get_or put p 0 + given posts link p
 
 -- Nothing is taken or put yet. Whoever fires has its rows; the places from which it takes are those of the rows of
 -- takers, each with its row of weights; its chain of post arcs is there. What is put fits.
 pub record TallyAsks (fired : ℕ) (taken put rows arcs : List ℕ) (w : List (List ℕ)) (heads posts : List ℕ)
     : Type 0 where
-  pub taken_size : length taken ≡ 128
-  pub put_size : length put ≡ 128
   pub none_taken : (p : ℕ) → p < 128 → get_or taken p 0 ≡ 0
   pub none_put : (p : ℕ) → p < 128 → get_or put p 0 ≡ 0
   pub rows_there : (t : ℕ) → bit fired t ≡ true → 8 * t + 8 ≤ length rows
@@ -98,10 +94,8 @@ pub record TallyAsks (fired : ℕ) (taken put rows arcs : List ℕ) (w : List (L
 
 -- What those that fired take and put at each place, their functions, and who lacks tokens at the places from which they
 -- take.
-pub record Tallied (fired : ℕ) (rows : List ℕ) (w : List (List ℕ)) (heads posts kept taken put : List ℕ) (x : Moved)
-    : Type 0 where
-  pub taken_size : length taken ≡ 128
-  pub put_size : length put ≡ 128
+pub record Tallied (fired : ℕ) (rows : List ℕ) (w : List (List ℕ)) (heads posts : List ℕ) (kept : Kept)
+    (taken put : List ℕ) (x : Moved) : Type 0 where
   pub taken_is : (p : ℕ) → p < 128 → get_or taken p 0 ≡ taken_at fired rows w p
   pub put_is : (p : ℕ) → p < 128 → get_or put p 0 ≡ put_at fired heads posts p
   pub functions_are : (k : ℕ) → bit x.functions k ≡ some 64 (λ t. bit fired t && bit (functions rows t) k)

@@ -12,7 +12,7 @@ ghost use Rattle.moezelkring.specs.Exported.{told, counted, changed, PartOf};
 use answers::Refusal;
 use summary::Refused;
 
-// An answer: its number (0 accepted), the page's where, the cycles done.
+// An answer as C is given it, in numbers: its number (0 accepted), the page's where, the cycles done.
 #[repr(C)]
 #[derive(Clone, Copy)]
 pub struct Told {
@@ -71,7 +71,8 @@ pub struct Part {
     pub length: usize,
 }
 
-// A summary: answer number and where, then the cycles and how often each transition fired; a refusal's are all 0.
+// A summary as C is given it: answer number and where, then the cycles and how often each transition fired; a
+// refusal's are all 0.
 #[repr(C)]
 #[derive(Clone, Copy)]
 pub struct Sum {
@@ -92,7 +93,7 @@ impl From<Refused> for Sum {
     }
 }
 
-// A net change: answer number and where, then a signed number for each place; a refusal's are all 0.
+// A net change as C is given it: answer number and where, then a signed number for each place; a refusal's are all 0.
 #[repr(C)]
 #[derive(Clone, Copy)]
 pub struct Difference {

@@ -17,7 +17,7 @@ use rows::{ACTIONS, BELOW, Declared, FUNCTIONS, INPUTS, LOOKS, POSTS};
 fn lost(by: u64, k: Declared, p: usize) -> bool
     ensures { result ≡ (some 64 (bit by) && not (has k p)) }
 {
-    by != 0 && !rows::has_place(k, p)
+    by != 0 && !k.has_place(p)
 }
 
 // Is place p declared, without an arc?
@@ -25,7 +25,7 @@ fn lost(by: u64, k: Declared, p: usize) -> bool
 fn bare(arcs: u64, k: Declared, p: usize) -> bool
     ensures { result ≡ (has k p && not (some 64 (bit arcs))) }
 {
-    arcs == 0 && rows::has_place(k, p)
+    arcs == 0 && k.has_place(p)
 }
 
 // The named, with t if it names something of its own.
@@ -81,13 +81,13 @@ pub fn any_unknown(rows: &[u64], k: Declared, n: usize) -> bool
 fn names_unknown(x: Rec, k: Declared) -> bool
     ensures { result ≡ unknown_by k x.kind x.one x.two }
 {
-    let one = records::wide(x.one);
-    let two = records::wide(x.two);
+    let one = usize::from(x.one);
+    let two = usize::from(x.two);
     match Kind::try_from(x.kind) {
-        Ok(Kind::Arc) => !rows::has_place(k, one) || !sets::has(k.transitions, two),
+        Ok(Kind::Arc) => !k.has_place(one) || !sets::has(k.transitions, two),
         Ok(Kind::Condition | Kind::Function) => !sets::has(k.transitions, one),
         Ok(Kind::Priority) => !sets::has(k.transitions, one) || !sets::has(k.transitions, two),
-        Ok(Kind::Action) => !rows::has_place(k, one),
+        Ok(Kind::Action) => !k.has_place(one),
         Ok(Kind::Place | Kind::Transition) => false,
         Err(_) => false,
     }

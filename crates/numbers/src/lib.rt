@@ -1,30 +1,8 @@
-// Numbers of more bytes: a narrow one made wide, and little-endian ones in lent bytes, read and stored, the lowest byte
-// first.
+// Numbers of more bytes: little-endian ones in lent bytes, read and stored, the lowest byte first.
 #![tactic(auto)]
 
 ghost use Rattle.std.specs.Prelude.{◌++◌, ◌≡◌, ◌+◌, ◌*◌, ◌/◌, ◌%◌, ◌≤◌, length, get_or, take, drop, set};
 ghost use Rattle.meaning.specs.Bytes.{number, bytes};
-
-// A number of one byte as one of two.
-pub fn half(x: u8) -> u16
-    ensures { result ≡ x }
-{
-    x as u16
-}
-
-// A number of two bytes as one of four.
-pub fn wide(x: u16) -> u32
-    ensures { (result ≡ x) × (result ≤ 65535) }
-{
-    x as u32
-}
-
-// A number of two bytes as one that counts.
-pub fn count(x: u16) -> usize
-    ensures { result ≡ x }
-{
-    x as usize
-}
 
 // The two bytes from `at` on as a number.
 pub fn two(bytes: &[u8], at: usize) -> u16
@@ -51,7 +29,7 @@ pub fn eight(bytes: &[u8], at: usize) -> u64
     whole(low, high)
 }
 
-// The two bytes of a number, from `at` on.
+// The two bytes of a number, from `at` on. It fits them, so that the cast loses nothing; u16::try_from would ask again.
 pub fn put_two(bytes: &mut [u8], at: usize, x: u32)
     requires at_in_bounds { at + 2 ≤ length bytes.old }
     requires x_bound { x ≤ 65535 }

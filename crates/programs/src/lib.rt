@@ -13,6 +13,7 @@ fn fill(file: &mut impl Read, buf: &mut [u8]) -> usize
     ensures { IsPrefixLen result buf.new }
 {
     let mut done = 0;
+    // A read comes in any length, so that no index is counted here.
     while done < buf.len() {
         match file.read(&mut buf[done..]) {
             Ok(0) | Err(_) => break,

@@ -22,13 +22,6 @@ pub struct Rec {
     pub six: u16,
 }
 
-// A byte as a number that counts.
-pub fn wide(x: u8) -> usize
-    ensures { result ≡ x }
-{
-    x as usize
-}
-
 // Record r of a table; past the last whole record all is 0.
 pub fn read(t: &[u8], r: usize) -> Rec
     ensures { Reads (table t.now) r result }
@@ -116,7 +109,7 @@ pub fn examine(x: Rec, r: usize, kinds: &[[u16; 5]; 7]) -> Result<Kind, Refusal>
     let Ok(kind) = Kind::try_from(x.kind) else {
         return Err(Refusal::Kind { record: r });
     };
-    let row = &kinds[x.kind as usize - 1];
+    let row = &kinds[usize::from(x.kind) - 1];
     if row[2] < u16::from(x.sort) {
         return Err(Refusal::Kind { record: r });
     }

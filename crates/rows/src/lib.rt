@@ -5,7 +5,7 @@ ghost use Rattle.std.specs.Prelude.{◌||◌, ◌≡◌, ℕ, ◌<◌, eqb};
 ghost use Rattle.meaning.specs.Bytes.{bit};
 ghost use Rattle.meaning.specs.Table.{table};
 ghost use Rattle.rows.specs.Rows.{has, transitions_below};
-ghost use Rattle.rows.specs.Extent.{larger_of, extent_of};
+ghost use Rattle.rows.specs.Extent.{extent_of};
 
 // Eight rows for each number, row c of number i at 8 * i + c. Of place p: the transitions with an input arc from it,
 // those of them with a basic arc, the transitions with a post arc to it, and its actions. Of transition t: the
@@ -42,55 +42,85 @@ pub const WEIGHT: usize = 1;
 
 pub const NEXT: usize = 2;
 
-// The declared places, 0 to 63 and 64 to 127, and the declared transitions.
+// A table as its records are filed, lent to be read: its rows, eight for each number; the weight and the sort of each
+// input arc, place by transition; the post arcs, a chain for each transition; and the times of each transition.
 #[derive(Clone, Copy)]
+pub struct Filed<'a> {
+    pub rows: &'a [u64],
+    pub weights: &'a [[u16; 64]],
+    pub sorts: &'a [[u8; 64]],
+    pub heads: &'a [u16; 64],
+    pub posts: &'a [u16],
+    pub times: &'a [u32; 192],
+}
+
+// What a cycle asks of a net: its table as it is filed; the places and the rivals of each transition; how many eights
+// its numbers fill; and its transitions that are declared, timed, have conditions, and have rivals.
+#[derive(Clone, Copy)]
+pub struct Net<'a> {
+    pub rows: &'a [u64],
+    pub weights: &'a [[u16; 64]],
+    pub sorts: &'a [[u8; 64]],
+    pub heads: &'a [u16; 64],
+    pub posts: &'a [u16],
+    pub times: &'a [u32; 192],
+    pub arcs: &'a [u64; 320],
+    pub eights: usize,
+    pub known: u64,
+    pub timed: u64,
+    pub conditional: u64,
+    pub lower: u64,
+}
+
+// The declared places, 0 to 63 and 64 to 127, and the declared transitions; none to begin with.
+#[derive(Clone, Copy, Default)]
 pub struct Declared {
     pub low: u64,
     pub high: u64,
     pub transitions: u64,
 }
 
-// Is place p declared?
-pub fn has_place(k: Declared, p: usize) -> bool
-    ensures { result ≡ has k p }
-{
-    if p < 64 {
-        sets::has(k.low, p)
-    } else {
-        sets::has(k.high, p - 64)
-    }
-}
-
-// The same with place p.
-pub fn with_place(k: Declared, p: usize) -> Declared
-    requires { p < 128 }
-    ensures { ((q : ℕ) → q < 128 → has result q ≡ (has k q || eqb p q)) × (result.transitions ≡ k.transitions) }
-{
-    if p < 64 {
-        Declared {
-            low: sets::union(k.low, sets::single(p)),
-            high: k.high,
-            transitions: k.transitions,
-        }
-    } else {
-        Declared {
-            low: k.low,
-            high: sets::union(k.high, sets::single(p - 64)),
-            transitions: k.transitions,
+impl Declared {
+    // Is place p declared?
+    pub fn has_place(self, p: usize) -> bool
+        ensures { result ≡ has self p }
+    {
+        if p < 64 {
+            sets::has(self.low, p)
+        } else {
+            sets::has(self.high, p - 64)
         }
     }
-}
 
-// The same with transition t.
-pub fn with_transition(k: Declared, t: usize) -> Declared
-    requires { t < 64 }
-    ensures { ((u : ℕ) → bit result.transitions u ≡ (bit k.transitions u || eqb t u))
-        × ((q : ℕ) → has result q ≡ has k q) }
-{
-    Declared {
-        low: k.low,
-        high: k.high,
-        transitions: sets::union(k.transitions, sets::single(t)),
+    // The same with place p.
+    pub fn with_place(self, p: usize) -> Declared
+        requires { p < 128 }
+        ensures { ((q : ℕ) → q < 128 → has result q ≡ (has self q || eqb p q))
+            × (result.transitions ≡ self.transitions) }
+    {
+        if p < 64 {
+            Declared {
+                low: sets::union(self.low, sets::single(p)),
+                ..self
+            }
+        } else {
+            Declared {
+                high: sets::union(self.high, sets::single(p - 64)),
+                ..self
+            }
+        }
+    }
+
+    // The same with transition t.
+    pub fn with_transition(self, t: usize) -> Declared
+        requires { t < 64 }
+        ensures { ((u : ℕ) → bit result.transitions u ≡ (bit self.transitions u || eqb t u))
+            × ((q : ℕ) → has result q ≡ has self q) }
+    {
+        Declared {
+            transitions: sets::union(self.transitions, sets::single(t)),
+            ..self
+        }
     }
 }
 

@@ -57,11 +57,11 @@ blank_cells tb f n {m} e =
     }
 
 -- Before the first record.
-pub passed_none : (tb : Table) {rows : List ℕ} {w s : List (List ℕ)} {heads posts times : List ℕ}
-    → Blank tb rows w s heads posts times
-    → Passed tb 0 rows w s heads posts times (record { low = 0; high = 0; transitions = 0 })
+pub passed_none : (tb : Table) (known : Declared) {rows : List ℕ} {w s : List (List ℕ)} {heads posts times : List ℕ}
+    → Blank tb rows w s heads posts times → (known.low ≡ 0) × ((known.high ≡ 0) × (known.transitions ≡ 0))
+    → Passed tb 0 rows w s heads posts times known
 unfolding some latest link has
-passed_none tb {rows} {w} {s} {heads} {posts} {times} blank =
+passed_none tb known {rows} {w} {s} {heads} {posts} {times} blank none =
     record {
       before = λ k l. absurd (not-suc-le-zero l);
       filed =
@@ -83,7 +83,7 @@ passed_none tb {rows} {w} {s} {heads} {posts} {times} blank =
                 };
             timed =
                 record { first_is = λ t h. no_time t 0; limit_is = λ t h. no_time t 1; last_is = λ t h. no_time t 2 };
-            known_are = record { places = λ p h. none_known p; transitions = λ t h. bit_zero t };
+            known_are = record { places = λ p h. none_known p; transitions = λ t h. rw none.1.1 (bit_zero t) };
           };
       paired = record { holds = λ u t h l. empty_row (8 * u + 7) t };
       heads_size = rw blank.no_heads (length-replicate {A = ℕ} 64 0);
@@ -96,8 +96,8 @@ passed_none tb {rows} {w} {s} {heads} {posts} {times} blank =
     no_time : (t j : ℕ) → get_or times (3 * t + j) 0 ≡ 0
     no_time t j = zeros 192 times blank.no_times (3 * t + j)
 
-    none_known : (p : ℕ) → cond (ltb p 64) (bit 0 p) (bit 0 (p - 64)) ≡ false
-    none_known p = grind (arith, common_steps, bit_zero)
+    none_known : (p : ℕ) → cond (ltb p 64) (bit known.low p) (bit known.high (p - 64)) ≡ false
+    none_known p = rw (none.0, none.1.0) (grind (arith, common_steps, bit_zero))
 
 -- A record that is passed is filed.
 module _ {tb : Table} {r : ℕ} {rows : List ℕ} {w s : List (List ℕ)} {heads posts times : List ℕ} {known : Declared}

@@ -42,8 +42,8 @@ fn keep_input(x: Rec, rows: &mut [u64], w: &mut [[u16; 64]], s: &mut [[u8; 64]])
     ensures input_kept { InputKept x result rows.old w.old s.old
         rows.new w.new s.new }
 {
-    let p = records::wide(x.one);
-    let t = records::wide(x.two);
+    let p = usize::from(x.one);
+    let t = usize::from(x.two);
     if enter(rows, 8 * p + INPUTS, t) {
         return true;
     }
@@ -64,13 +64,14 @@ fn keep_post(x: Rec, r: usize, rows: &mut [u64], heads: &mut [u16; 64], posts: &
     ensures post_kept { PostKept x r result rows.old heads.old posts.old
         rows.new heads.new posts.new }
 {
-    let t = records::wide(x.two);
-    if enter(rows, 8 * records::wide(x.one) + POSTS, t) {
+    let t = usize::from(x.two);
+    if enter(rows, 8 * usize::from(x.one) + POSTS, t) {
         return true;
     }
-    posts[3 * r + PLACE] = numbers::half(x.one);
+    posts[3 * r + PLACE] = u16::from(x.one);
     posts[3 * r + WEIGHT] = x.four;
     posts[3 * r + NEXT] = heads[t];
+    // There are at most 1,024 records, so that the cast loses nothing; u16::try_from would ask again.
     heads[t] = (r + 1) as u16;
     false
 }
@@ -82,8 +83,8 @@ fn keep_condition(x: Rec, rows: &mut [u64]) -> bool
     ensures kept { (result ≡ false → Kept x rows.old rows.new)
         × (length rows.new ≡ length rows.old) }
 {
-    let t = records::wide(x.one);
-    let c = records::wide(x.two);
+    let t = usize::from(x.one);
+    let c = usize::from(x.two);
     if enter(rows, 8 * t + LOOKS, c) {
         return true;
     }
@@ -97,14 +98,18 @@ fn keep_condition(x: Rec, rows: &mut [u64]) -> bool
 fn limit_of(sort: u8, a: u16, b: u16) -> u32
     ensures { result ≡ cond (eqb sort 1) (suc b) a }
 {
-    if sort == 1 { b as u32 + 1 } else { a as u32 }
+    if sort == 1 {
+        u32::from(b) + 1
+    } else {
+        u32::from(a)
+    }
 }
 
 // The last count in time: b, and of sort 2 the largest number, which stands for no end.
 fn last_of(sort: u8, b: u16) -> u32
     ensures { result ≡ cond (eqb sort 2) 4294967295 b }
 {
-    if sort == 2 { 4294967295 } else { b as u32 }
+    if sort == 2 { 4294967295 } else { u32::from(b) }
 }
 
 // Keeps the times of a transition.
@@ -112,8 +117,8 @@ fn keep_times(x: Rec, times: &mut [u32; 192])
     requires { (x.one < 64) × (length times.old ≡ 192) }
     ensures { TimesKept x times.old times.new }
 {
-    let t = records::wide(x.one);
-    times[3 * t + FIRST] = numbers::wide(x.four);
+    let t = usize::from(x.one);
+    times[3 * t + FIRST] = u32::from(x.four);
     times[3 * t + LIMIT] = limit_of(x.sort, x.four, x.six);
     times[3 * t + LAST] = last_of(x.sort, x.six);
 }
@@ -125,7 +130,7 @@ fn keep_alone(x: Rec, c: usize, rows: &mut [u64]) -> bool
     ensures value { result ≡ bit (row rows.old c x.one) x.two }
     ensures kept { Kept x rows.old rows.new × (length rows.new ≡ length rows.old) }
 {
-    enter(rows, 8 * records::wide(x.one) + c, records::wide(x.two))
+    enter(rows, 8 * usize::from(x.one) + c, usize::from(x.two))
 }
 
 // Keeps record r, of this kind, whose own columns are in order: what is declared after it, or None where an earlier
@@ -151,13 +156,13 @@ fn keep(
 {
     match kind {
         Kind::Place => {
-            let p = records::wide(x.one);
-            (!rows::has_place(known, p)).then_some(rows::with_place(known, p))
+            let p = usize::from(x.one);
+            (!known.has_place(p)).then_some(known.with_place(p))
         }
         Kind::Transition => {
             keep_times(x, times);
-            let t = records::wide(x.one);
-            (!sets::has(known.transitions, t)).then_some(rows::with_transition(known, t))
+            let t = usize::from(x.one);
+            (!sets::has(known.transitions, t)).then_some(known.with_transition(t))
         }
         Kind::Arc if x.sort == 3 => (!keep_post(x, r, rows, heads, posts)).then_some(known),
         Kind::Arc => (!keep_input(x, rows, w, s)).then_some(known),
@@ -187,11 +192,7 @@ pub fn scan(
 {
     let n = t.len() / 8;
     let kinds = records::kinds();
-    let mut known = Declared {
-        low: 0,
-        high: 0,
-        transitions: 0,
-    };
+    let mut known = Declared::default();
     for r in 0..n {
         let x = records::read(t, r);
         let kind = records::examine(x, r, &kinds)?;

@@ -1,6 +1,6 @@
 -- A walk over the numbers below an end: those before the one at hand are kept where they pass.
 use mathlib.Core.Bool.{Bool, true, false, ◌&&◌, ◌||◌, and-true, and-false, or-false}
-use mathlib.Core.Path.{◌≡◌, refl, sym, ap, ◌∙◌}
+use mathlib.Core.Path.{◌≡◌, refl, sym, ap}
 use Prim.Native.Nat.{ℕ, ◌+◌, ◌≤◌}
 use native.Mathlib.Omega.{arith}
 use lib.Dec.{eqb, ltb}
@@ -20,14 +20,9 @@ one_more f p q = go (ltb q p) (eqb p q) refl refl
         let apart : ¬ (p ≡ q) = eqb-false p q z in
         rw (le-ltb q (p + 1) (omega (arith, ltb-false q p e)), and-false (f p))
 
--- Before the first nothing is kept, one more is kept if it passes, and where none from n on passes all that pass are
--- below n.
+-- Before the first nothing is kept, and where none from n on passes all that pass are below n.
 pub no_number : (f : ℕ → Bool) (t : ℕ) → bit 0 t ≡ (ltb t 0 && f t)
 no_number f t = rw (bit_zero t, le-ltb t 0 (omega arith))
-
-pub next_number : (f : ℕ → Bool) (t p : ℕ) {old new y : Bool} → y ≡ f p → new ≡ (old || (y && eqb p t))
-    → old ≡ (ltb t p && f t) → new ≡ (ltb t (p + 1) && f t)
-next_number f t p passes gains before = gains ∙ rw (before, passes) (one_more f p t)
 
 pub below_end : (n : ℕ) (f : ℕ → Bool) (t : ℕ) → (n ≤ t → f t ≡ false) → (ltb t n && f t) ≡ f t
 below_end n f t none = go (ltb t n) refl

@@ -43,7 +43,7 @@ pub fn less(s: u64, t: u64) -> u64
     s - (s & t)
 }
 
-// The lowest number in s, if there is one.
+// The lowest number in s, if there is one. The cast makes it wider; there is no usize::from for four bytes.
 pub fn lowest(s: u64) -> Option<usize>
     ensures { IsFirst 64 (bit s) result }
 {

@@ -1,23 +1,29 @@
 -- The first record that is wrong is the first place whose record is, and where there is none the first such transition.
 use mathlib.Core.Bool.{Bool, true, false}
 use mathlib.Core.List.{List}
+use mathlib.Core.Logic.{⊎_elim}
 use mathlib.Core.Path.{◌≡◌, ap, ◌∙◌}
 use Prim.Native.Nat.{ℕ, ◌+◌, ◌*◌, ◌-◌, ◌≤◌, ◌<◌}
 use native.Mathlib.Omega.{arith}
-use Rattle.std.proofs.lemmas.Grind.{common_steps}
+use lib.Dec.{ltb}
+use borrow.Author.Tests.{lt-ltb, le-ltb, ltb-true, ltb-false}
 use Rattle.std.specs.declared.option.Option.{Option}
 use Rattle.std.specs.declared.option.Option.TheVariants.{Some, None}
 use Rattle.meaning.specs.Below.{first, IsFirst}
 use Rattle.meaning.proofs.Below.{first_is, first_none, first_passes, first_before}
+use Rattle.meaning.proofs.Bool.{either}
 use Rattle.rows.specs.declared.Declared.{Declared}
 use Rattle.state.specs.Records.{Quiet, IsFirstFrom}
-use Rattle.state.specs.Fit.{wrong_place_by, wrong_transition_by, wrong_by}
-use Rattle.state.proofs.Read.{columns}
+use Rattle.state.specs.Fit.{wrong_place_by, order_by, wrong_transition_by, wrong_by}
+use Rattle.rows.specs.Rows.{limit_of}
+use Rattle.state.proofs.Read.{quiet_is}
 
 -- What fails below n, and from n on below m, fails below m.
 pub none_joined : (n m : ℕ) (p : ℕ → Bool) → ((k : ℕ) → k < n → p k ≡ false)
     → ((k : ℕ) → n ≤ k → k < m → p k ≡ false) → (k : ℕ) → k < m → p k ≡ false
-none_joined n m p f g k h = grind arith
+none_joined n m p f g k h =
+    ⊎_elim (λ (t : ltb k n ≡ true). f k (ltb-true k n t)) (λ (t : ltb k n ≡ false). g k (ltb-false k n t) h)
+    (either (ltb k n))
 
 -- The first from n on, where none below n passes, is the first of all.
 pub first_joined : (n m : ℕ) (p : ℕ → Bool) → ((k : ℕ) → k < n → p k ≡ false) → (r : Option ℕ) → IsFirstFrom p n m r
@@ -32,13 +38,24 @@ first_joined n m p none (Some k) found =
 pub quiet_places : (bs : List ℕ) (known : Declared) (n : ℕ) → Quiet bs (4 * n) 512 → (p : ℕ) → n ≤ p → p < 128
     → wrong_place_by bs known p ≡ false
 unfolding wrong_place_by
-quiet_places bs known n q p l h = grind (arith, common_steps, columns)
+quiet_places bs known n q p l h =
+    let blank = quiet_is bs (4 * n) 512 p q (omega arith) (omega arith) (omega arith) in
+    rw (blank.third, blank.fourth, blank.number)
 
 -- All transitions, whose bytes are 0.
 pub quiet_transitions : (bs times : List ℕ) → Quiet bs 512 768 → (t : ℕ) → t < 64
     → wrong_transition_by bs times t ≡ false
 unfolding wrong_transition_by
-quiet_transitions bs times q t h = grind (arith, common_steps, columns)
+quiet_transitions bs times q t h =
+    let blank = quiet_is bs 512 768 (128 + t) q (omega arith) (omega arith) (omega arith) in
+    let limit = limit_of times t in
+    rw (
+      blank.third,
+      blank.fourth,
+      blank.number,
+      le-ltb limit 0 (omega arith),
+      le-ltb (order_by limit) 0 (omega arith),
+    )
 
 -- THE FIRST WRONG RECORD
 
@@ -56,11 +73,13 @@ module _ (bs : List ℕ) (known : Declared) (times : List ℕ) where
   -- A place's test is that of its record, and a transition's that of the record 128 behind.
   of_place : (p : ℕ) → p < 128 → test p ≡ place p
   unfolding wrong_by
-  of_place p h = grind (arith, common_steps)
+  of_place p h = rw (lt-ltb p 128 h)
 
   of_transition : (t : ℕ) → test (128 + t) ≡ transition t
   unfolding wrong_by
-  of_transition t = grind (arith, common_steps)
+  of_transition t =
+      let less : 128 + t - 128 ≡ t = omega arith in
+      rw (le-ltb (128 + t) 128 (omega arith), less)
 
   -- The first wrong place is the first wrong record.
   pub at_place : {p : ℕ} → (p < 128) × (first 128 place ≡ p) → (p < 192) × (first 192 test ≡ p)
@@ -98,7 +117,7 @@ module _ (bs : List ℕ) (known : Declared) (times : List ℕ) where
 
     -- There is none where all of the transitions' bytes are 0.
     pub at_quiet : Quiet bs 512 768 → first 192 test ≡ 192
-    at_quiet q = grind (arith, at_none, first_none, quiet_transitions)
+    at_quiet q = at_none (first_none 64 transition (quiet_transitions bs times q))
 
 -- What the places, and then all records, come to.
 pub ruleset of_places = (none_joined, first_joined, first_none, quiet_places)

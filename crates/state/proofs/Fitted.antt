@@ -1,9 +1,11 @@
 -- What is read off the image, the declared places and the limits is what the page says of image and table.
+use mathlib.Core.Bool.{Bool, true, false}
 use mathlib.Core.List.{List}
-use mathlib.Core.Path.{◌≡◌}
-use Prim.Native.Nat.{ℕ, ◌<◌}
+use mathlib.Core.Path.{◌≡◌, refl}
+use Prim.Native.Nat.{ℕ, ◌-◌, ◌<◌}
 use native.Mathlib.Omega.{arith}
-use Rattle.std.proofs.lemmas.Grind.{common_steps}
+use lib.Dec.{ltb}
+use borrow.Author.Tests.{ltb-true, ltb-false}
 use Rattle.meaning.specs.Below.{first}
 use Rattle.meaning.specs.Table.{Table, place}
 use Rattle.meaning.specs.Image.{State, image, wrong, wrong_place, wrong_transition, most_order}
@@ -30,7 +32,11 @@ module _ {tb : Table} (sound : SoundTable tb) {times : List ℕ} (timed : Timed 
   -- Record by record the two tests are the same.
   pub wrong_same : (k : ℕ) → k < 192 → wrong_by bs known times k ≡ wrong tb (image bs) k
   unfolding wrong_by wrong
-  wrong_same k h = grind (arith, common_steps, place_same, transition_same)
+  wrong_same k h = go (ltb k 128) refl
+    where
+      go : (b : Bool) → ltb k 128 ≡ b → wrong_by bs known times k ≡ wrong tb (image bs) k
+      go true e = rw e (place_same k (ltb-true k 128 e))
+      go false e = rw e (transition_same (k - 128) (omega (arith, ltb-false k 128 e)))
 
   -- So the first that is wrong is the same.
   pub first_wrong_same : first 192 (wrong_by bs known times) ≡ first 192 (wrong tb (image bs))

@@ -2,7 +2,7 @@
 -- state that agrees with it has nothing.
 use mathlib.Core.Bool.{not, ◌&&◌, ◌||◌, false}
 use mathlib.Core.List.{List}
-use mathlib.Core.Path.{◌≡◌}
+use mathlib.Core.Path.{◌≡◌, ◌∙◌}
 use Prim.Native.Nat.{ℕ, ◌+◌, ◌≤◌, ◌<◌}
 use native.Mathlib.Omega.{arith}
 use lib.Dec.{eqb, ltb}
@@ -87,4 +87,7 @@ module _ (tb : Table) {n : ℕ} (below : (r : ℕ) → r < tb.records → tb.one
       → IdlePast tokens counters n
   unfolding state
   idle_past orders alike =
-      grind (arith, blank_place, blank_transition)
+      record {
+        no_tokens = λ p l h. alike.tokens p h ∙ (blank_place p l h).number;
+        no_counters = λ t l h. alike.counter t h ∙ (blank_transition t l h).number;
+      }

@@ -1,15 +1,18 @@
 -- Two stores of a place's two bytes turn the image of a state into the image of the state with that place changed:
 -- byte by byte.
-use mathlib.Core.List.{List}
-use mathlib.Core.Logic.{◌≢◌}
-use mathlib.Core.Path.{◌≡◌, ◌∙◌}
-use Prim.Native.Nat.{ℕ, ◌+◌, ◌*◌, ◌/◌, ◌%◌, ◌≤◌, ◌<◌}
+use mathlib.Core.Bool.{true, false}
+use mathlib.Core.List.{List, [], ◌∷◌, ◌++◌}
+use mathlib.Core.Logic.{◌≢◌, ⊎_elim}
+use mathlib.Core.Path.{◌≡◌, sym, ap, ◌∙◌, subst}
+use Prim.Native.Nat.{ℕ, zero, suc, ◌+◌, ◌*◌, ◌/◌, ◌%◌, ◌≤◌, ◌<◌}
 use native.Mathlib.Omega.{arith}
+use lib.Dec.{eqb}
 use lib.ListN.{length, get_or, set, length-set}
-use lib.Seq.{get_or-set_other}
-use Rattle.std.proofs.lemmas.Grind.{common_steps}
+use lib.Seq.{get_or-set_same, get_or-set_other}
+use borrow.Author.Tests.{eqb-true, eqb-false}
 use Rattle.meaning.specs.Bytes.{bytes}
-use Rattle.meaning.specs.Image.{State, image_bytes}
+use Rattle.meaning.specs.Image.{State, image_bytes, transition_record}
+use Rattle.meaning.proofs.Bool.{either}
 use Rattle.meaning.proofs.Image.{image_length, place_byte, transition_byte}
 use Rattle.state.proofs.Images.{image_same, each_record}
 
@@ -40,14 +43,43 @@ module _ (s s' : State) (p x : ℕ) (here : p < 128) (now_x : s'.tokens p ≡ x)
 
       same_place : (q i : ℕ) → q < 128 → i < 4 → q ≢ p
           → get_or stored (4 * q + i) 0 ≡ get_or (image_bytes s') (4 * q + i) 0
-      same_place q i hq hi apart = grind (arith, common_steps, place_byte, image_length, others q apart)
+      same_place q i hq hi apart =
+          away (4 * q + i) (λ e. omega arith) (λ e. omega arith) ∙ place_byte s q i hq hi
+          ∙ ap (λ (m : ℕ). get_or (bytes 2 m ++ 0 ∷ 0 ∷ []) i 0) (sym (others q apart))
+          ∙ sym (place_byte s' q i hq hi)
 
       at_p : (i : ℕ) → i < 4 → get_or stored (4 * p + i) 0 ≡ get_or (image_bytes s') (4 * p + i) 0
-      at_p i hi = grind (arith, common_steps, place_byte, image_length)
+      at_p zero hi =
+          let begin : 4 * p + 0 ≡ 4 * p = omega arith in
+          subst (λ (n : ℕ). get_or stored n 0 ≡ x % 256) (sym begin)
+          (get_or-set_other low (4 * p + 1) (4 * p) (x / 256) 0 (λ e. omega arith)
+          ∙ get_or-set_same (image_bytes s) (4 * p) (x % 256) 0 (omega (arith, inside 0 hi)))
+          ∙ ap (λ (m : ℕ). m % 256) (sym now_x)
+          ∙ sym (place_byte s' p 0 here hi)
+      at_p (suc zero) hi =
+          let half : x / 256 ≡ x / 256 % 256 = omega arith in
+          get_or-set_same low (4 * p + 1) (x / 256) 0 (rw length-set (inside 1 hi))
+          ∙ half
+          ∙ ap (λ (m : ℕ). m / 256 % 256) (sym now_x)
+          ∙ sym (place_byte s' p 1 here hi)
+      at_p (suc (suc zero)) hi =
+          away (4 * p + 2) (λ e. omega arith) (λ e. omega arith) ∙ place_byte s p 2 here hi
+          ∙ sym (place_byte s' p 2 here hi)
+      at_p (suc (suc (suc zero))) hi =
+          away (4 * p + 3) (λ e. omega arith) (λ e. omega arith) ∙ place_byte s p 3 here hi
+          ∙ sym (place_byte s' p 3 here hi)
+      at_p (suc (suc (suc (suc i)))) hi = absurd (omega arith)
 
       place : (q : ℕ) → q < 128 → (i : ℕ) → i < 4 → get_or stored (4 * q + i) 0 ≡ get_or (image_bytes s') (4 * q + i) 0
-      place q hq i hi = grind (arith, at_p, same_place)
+      place q hq i hi =
+          ⊎_elim (λ (e : eqb q p ≡ true). subst (λ (n : ℕ). get_or stored (4 * n + i) 0
+          ≡ get_or (image_bytes s') (4 * n + i) 0) (sym (eqb-true q p e)) (at_p i hi))
+          (λ (e : eqb q p ≡ false). same_place q i hq hi (eqb-false q p e))
+          (either (eqb q p))
 
       transition : (t : ℕ) → t < 64 → (i : ℕ) → i < 4
           → get_or stored (4 * (128 + t) + i) 0 ≡ get_or (image_bytes s') (4 * (128 + t) + i) 0
-      transition t ht i hi = grind (arith, common_steps, transition_byte, image_length)
+      transition t ht i hi =
+          let same : transition_record s t ≡ transition_record s' t = rw (counters t, orders t) in
+          away (4 * (128 + t) + i) (λ e. omega arith) (λ e. omega arith) ∙ transition_byte s t i ht hi
+          ∙ ap (λ (l : List ℕ). get_or l i 0) same ∙ sym (transition_byte s' t i ht hi)

@@ -1,15 +1,20 @@
 -- Writing an image: four stores are one record, the records stored so far are those of the state, and 192 of them are
 -- the image.
-use mathlib.Core.Bool.{false}
+use mathlib.Core.Bool.{true, false}
 use mathlib.Core.List.{List, [], ◌∷◌, ◌++◌}
-use mathlib.Core.Path.{◌≡◌, sym, ◌∙◌}
-use Prim.Native.Nat.{ℕ, ◌+◌, ◌-◌, ◌*◌, ◌/◌, ◌%◌, ◌≤◌, ◌<◌}
+use mathlib.Core.Logic.{⊎_elim}
+use mathlib.Core.Path.{◌≡◌, refl, sym, ap, ◌∙◌, subst}
+use Prim.Native.Nat.{ℕ, zero, suc, ◌+◌, ◌-◌, ◌*◌, ◌/◌, ◌%◌, ◌≤◌, ◌<◌}
+use native.Mathlib.Nat.{add-zero}
 use native.Mathlib.Omega.{arith}
-use lib.ListN.{length, get_or, set}
+use lib.ListN.{length, get_or, set, length-set}
+use lib.Seq.{get_or-set_same, get_or-set_other}
+use lib.Dec.{ltb}
 use borrow.Author.Count.{below_more}
-use Rattle.std.proofs.lemmas.Grind.{common_steps}
+use borrow.Author.Tests.{ltb-true, ltb-false}
 use Rattle.meaning.specs.Bytes.{bytes}
 use Rattle.meaning.specs.Image.{State, image, image_bytes}
+use Rattle.meaning.proofs.Bool.{either}
 use Rattle.meaning.proofs.Image.{image_length, place_byte, transition_byte}
 use Rattle.state.specs.Records.{Blank}
 use Rattle.state.specs.Stored.{Stored}
@@ -20,10 +25,50 @@ use Rattle.state.proofs.Images.{image_same}
 abbrev pub stored : List ℕ → ℕ → ℕ → ℕ → ℕ → ℕ → List ℕ
 stored bs k a b c d = set (set (set (set bs (4 * k) a) (4 * k + 1) b) (4 * k + 2) c) (4 * k + 3) d
 
--- Four stores of the bytes of x are the record, and touch no other.
-pub stored_is : (bs : List ℕ) (k a b c d : ℕ) → length bs ≡ 768 → k < 192 → (x : ℕ)
-    → a ∷ b ∷ c ∷ d ∷ [] ≡ bytes 2 x ++ 0 ∷ 0 ∷ [] → Stored bs k x (stored bs k a b c d)
-stored_is bs k a b c d long low x e = grind (arith, common_steps)
+module _ (bs : List ℕ) (k a b c d : ℕ) (long : length bs ≡ 768) (low : k < 192) where
+  -- The bytes after one, two and three stores.
+  abbrev one : List ℕ
+  one = set bs (4 * k) a
+
+  abbrev two : List ℕ
+  two = set one (4 * k + 1) b
+
+  abbrev three : List ℕ
+  three = set two (4 * k + 2) c
+
+  inside : (j : ℕ) → j < 4 → 4 * k + j < length bs
+  inside j h = omega (arith, long, low)
+
+  -- Byte j of record k, store by store.
+  stored_here : (j : ℕ) → j < 4 → get_or (stored bs k a b c d) (4 * k + j) 0 ≡ get_or (a ∷ b ∷ c ∷ d ∷ []) j 0
+  stored_here zero h =
+      ap (λ (i : ℕ). get_or (stored bs k a b c d) i 0) (add-zero (4 * k))
+      ∙ get_or-set_other three (4 * k + 3) (4 * k) d 0 (λ e. omega arith)
+      ∙ get_or-set_other two (4 * k + 2) (4 * k) c 0 (λ e. omega arith)
+      ∙ get_or-set_other one (4 * k + 1) (4 * k) b 0 (λ e. omega arith)
+      ∙ get_or-set_same bs (4 * k) a 0 (omega (arith, inside 0 h))
+  stored_here (suc zero) h =
+      get_or-set_other three (4 * k + 3) (4 * k + 1) d 0 (λ e. omega arith)
+      ∙ get_or-set_other two (4 * k + 2) (4 * k + 1) c 0 (λ e. omega arith)
+      ∙ get_or-set_same one (4 * k + 1) b 0 (simp length-set (inside 1 h))
+  stored_here (suc (suc zero)) h =
+      get_or-set_other three (4 * k + 3) (4 * k + 2) d 0 (λ e. omega arith)
+      ∙ get_or-set_same two (4 * k + 2) c 0 (simp length-set (inside 2 h))
+  stored_here (suc (suc (suc zero))) h = get_or-set_same three (4 * k + 3) d 0 (simp length-set (inside 3 h))
+  stored_here (suc (suc (suc (suc j)))) h = absurd (omega arith)
+
+  -- Four stores of the bytes of x are the record, and touch no other.
+  pub stored_is : (x : ℕ) → a ∷ b ∷ c ∷ d ∷ [] ≡ bytes 2 x ++ 0 ∷ 0 ∷ [] → Stored bs k x (stored bs k a b c d)
+  stored_is x e =
+      record {
+        long = simp length-set long;
+        here = λ j h. stored_here j h ∙ ap (λ (v : List ℕ). get_or v j 0) e;
+        others = λ n j apart h.
+            get_or-set_other three (4 * k + 3) (4 * n + j) d 0 (λ e. apart (omega arith))
+            ∙ get_or-set_other two (4 * k + 2) (4 * n + j) c 0 (λ e. apart (omega arith))
+            ∙ get_or-set_other one (4 * k + 1) (4 * n + j) b 0 (λ e. apart (omega arith))
+            ∙ get_or-set_other bs (4 * k) (4 * n + j) a 0 (λ e. apart (omega arith));
+      }
 
 -- The bytes of a number that fits two.
 pub two_of : (x : ℕ) → x ≤ 65535 → x % 256 ∷ x / 256 ∷ 0 ∷ 0 ∷ [] ≡ bytes 2 x ++ 0 ∷ 0 ∷ []
@@ -54,16 +99,28 @@ upto_more want old bs next k x u s is =
 upto_past : (want old bs : List ℕ) (k n : ℕ) → Upto want old k bs → k ≤ n
     → ((i : ℕ) → k ≤ i → i < n → (j : ℕ) → j < 4 → get_or old (4 * i + j) 0 ≡ get_or want (4 * i + j) 0)
     → Upto want old n bs
-upto_past want old bs k n u l same = grind (arith, common_steps)
+upto_past want old bs k n u l same =
+    record {
+      long = u.long;
+      right = λ i h j d.
+          ⊎_elim (λ (e : ltb i k ≡ true). u.right i (ltb-true i k e) j d)
+          (λ (e : ltb i k ≡ false). u.rest i (ltb-false i k e) j d ∙ same i (ltb-false i k e) h j d)
+          (either (ltb i k));
+      rest = λ i h j d. u.rest i (omega (arith, l, h)) j d;
+    }
 
 -- Counted from here on.
 pub upto_here : (want old bs : List ℕ) (k : ℕ) → Upto want old k bs → Upto want bs k bs
-upto_here want old bs k u = grind (arith, common_steps)
+upto_here want old bs k u = record { long = u.long; right = u.right; rest = λ n h j d. refl }
 
 -- The record of nothing is four bytes of 0.
 no_byte : (j : ℕ) → j < 4 → get_or (bytes 2 0 ++ 0 ∷ 0 ∷ []) j 0 ≡ 0
 unfolding bytes
-no_byte j h = grind (arith, common_steps)
+no_byte zero h = refl
+no_byte (suc zero) h = refl
+no_byte (suc (suc zero)) h = refl
+no_byte (suc (suc (suc zero))) h = refl
+no_byte (suc (suc (suc (suc j)))) h = absurd (omega arith)
 
 module _ (s : State) (old : List ℕ) where
   -- Places at which there is nothing, and was nothing of old; and transitions.
@@ -71,7 +128,10 @@ module _ (s : State) (old : List ℕ) where
       → ((p : ℕ) → n ≤ p → p < 128 → s.tokens p ≡ 0)
       → Upto (image_bytes s) old n bs → Upto (image_bytes s) old 128 bs
   idle_places bs n low blank none u =
-      grind (arith, upto_past, blank_bytes, place_byte, no_byte)
+      upto_past (image_bytes s) old bs n 128 u low
+      (λ p l h j d.
+      blank_bytes old p j (omega arith) (blank p l h) d
+      ∙ sym (place_byte s p j h d ∙ ap (λ (x : ℕ). get_or (bytes 2 x ++ 0 ∷ 0 ∷ []) j 0) (none p l h) ∙ no_byte j d))
 
   pub idle_transitions : (bs : List ℕ) (n : ℕ) → n ≤ 64
       → ((t : ℕ) → n ≤ t → t < 64 → (j : ℕ) → j < 4 → get_or old (4 * (128 + t) + j) 0 ≡ 0)
@@ -79,7 +139,16 @@ module _ (s : State) (old : List ℕ) where
       → Upto (image_bytes s) old (128 + n) bs → Upto (image_bytes s) old 192 bs
   idle_transitions bs n low blank none unordered u =
       upto_past (image_bytes s) old bs (128 + n) 192 u (omega arith)
-      (λ i l h j d. grind (arith, blank (i - 128), none (i - 128), transition_byte s (i - 128), no_byte))
+      (λ i l h j d.
+      let split : i ≡ 128 + (i - 128) = omega (arith, l) in
+      let past : n ≤ i - 128 = omega (arith, l) in
+      let small : i - 128 < 64 = omega (arith, h, l) in
+      subst (λ (k : ℕ). get_or old (4 * k + j) 0 ≡ get_or (image_bytes s) (4 * k + j) 0) (sym split)
+      (blank (i - 128) past small j d
+      ∙ sym
+      (transition_byte s (i - 128) j small d
+      ∙ rw (unordered (i - 128)) (ap (λ (x : ℕ). get_or (bytes 2 x ++ 0 ∷ 0 ∷ []) j 0) (none (i - 128) past small)
+      ∙ no_byte j d))))
 
   -- A place's record, and a transition's.
   pub upto_place : (bs next : List ℕ) (p : ℕ) → p < 128 → Upto (image_bytes s) old p bs → Stored bs p (s.tokens p) next
@@ -90,7 +159,11 @@ module _ (s : State) (old : List ℕ) where
   pub upto_transition : (bs next : List ℕ) (t : ℕ) → t < 64 → ((k : ℕ) → s.order k ≡ false)
       → Upto (image_bytes s) old (128 + t) bs → Stored bs (128 + t) (s.counter t) next
       → Upto (image_bytes s) old (128 + (t + 1)) next
-  upto_transition bs next t h none u w = grind (arith, upto_more, transition_byte)
+  upto_transition bs next t h none u w =
+      let on : 128 + t + 1 ≡ 128 + (t + 1) = omega arith in
+      rw on at
+      (upto_more (image_bytes s) old bs next (128 + t) (s.counter t) u w
+      (λ j l. transition_byte s t j h l ∙ rw (none t)))
 
   -- All 192 records are the image.
   pub upto_all : (bs : List ℕ) → Upto (image_bytes s) old 192 bs → bs ≡ image_bytes s

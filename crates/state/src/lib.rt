@@ -8,13 +8,20 @@ ghost use Rattle.meaning.specs.Defined.{check};
 ghost use Rattle.meaning.specs.Image.{image as spelled, image_bytes, fresh as fresh_net};
 ghost use Rattle.meaning.specs.Table.{table};
 ghost use Rattle.state.specs.Records.{Quiet, IsFirstFrom};
-ghost use Rattle.state.specs.Holds.{held, TokensAsks, LoadedTokens, CountersAsks, LoadedCounters};
-ghost use Rattle.state.specs.Holds.{LoadAsks, Loaded, SaveAsks};
+ghost use Rattle.state.specs.Holds.{held, LoadAsks, Loaded, SaveAsks};
 ghost use Rattle.state.specs.Stored.{Stored, tokens_put};
 ghost use Rattle.state.specs.Fit.{wrong_place_by, wrong_transition_by, wrong_by};
 
 use records::Kind;
 use rows::{Declared, LIMIT};
+
+// The state of a net: the tokens of each place, the counter of each transition, and the transitions with a reset order.
+#[derive(Drop)]
+pub struct State {
+    pub tokens: [u32; 128],
+    pub counters: [u32; 64],
+    pub orders: u64,
+}
 
 // READING
 
@@ -26,7 +33,7 @@ fn number(image: &[u8], k: usize) -> u32
     ensures value { result ≡ (spelled image.now).number k }
     ensures upper_bound { result ≤ 65535 }
 {
-    numbers::two(image, 4 * k) as u32
+    u32::from(numbers::two(image, 4 * k))
 }
 
 // Are the bytes from one place up to another all 0?
@@ -54,7 +61,7 @@ fn wrong_place(image: &[u8], k: Declared, p: usize) -> bool
     if image[4 * p + 2] != 0 || image[4 * p + 3] != 0 {
         return true;
     }
-    number(image, p) != 0 && !rows::has_place(k, p)
+    number(image, p) != 0 && !k.has_place(p)
 }
 
 // Transition t's record is wrong: its counter is above its limit, its reset order is above 1 or it may have none, or
@@ -136,43 +143,28 @@ pub fn first_wrong(image: &[u8], k: Declared, times: &[u32; 192], n: usize) -> O
 
 // READ INTO ARRAYS
 
-// Fills an array, which is lent empty, with the tokens of each place. From place n on there is none.
+// The state that an image holds: the tokens of each place, then the counter and the reset order of each transition.
+// From place n and from transition n on the image is 0.
 #[tactic(auto, using(crate::proofs::Read::listing), unfolding(meaning::specs::Image::state))]
-fn load_tokens(image: &[u8], tokens: &mut [u32; 128], n: usize)
-    requires { TokensAsks image.now tokens.old n }
-    ensures { LoadedTokens image.now tokens.new }
+pub fn load(image: &[u8], n: usize) -> State
+    requires { LoadAsks image.now n }
+    ensures { Loaded image.now result }
 {
+    let mut state = State {
+        tokens: [0; 128],
+        counters: [0; 64],
+        orders: 0,
+    };
     for p in 0..n {
-        tokens[p] = number(image, p);
+        state.tokens[p] = number(image, p);
     }
-}
-
-// Fills an array, which is lent empty, with the counter of each transition, and answers the set of the transitions with
-// a reset order. From transition n on the image is 0.
-#[tactic(auto, using(crate::proofs::Read::listing), unfolding(meaning::specs::Image::state))]
-fn load_counters(image: &[u8], counters: &mut [u32; 64], n: usize) -> u64
-    requires { CountersAsks image.now counters.old n }
-    ensures { LoadedCounters image.now counters.new result }
-{
-    let mut orders = 0u64;
-    for t in 0..n {
-        counters[t] = number(image, 128 + t);
+    for t in 0..rows::transitions(n) {
+        state.counters[t] = number(image, 128 + t);
         if image[512 + 4 * t + 2] == 1 {
-            orders = sets::union(orders, sets::single(t));
+            state.orders = sets::union(state.orders, sets::single(t));
         }
     }
-    orders
-}
-
-// Fills two arrays, which are lent empty, with the tokens and the counters of the state that an image holds, and
-// answers the set of the transitions with a reset order. From place n and from transition n on the image is 0.
-#[tactic(auto, using(rows::proofs::Few::transitions_le, rows::proofs::Few::past))]
-pub fn load(image: &[u8], tokens: &mut [u32; 128], counters: &mut [u32; 64], n: usize) -> u64
-    requires { LoadAsks image.now tokens.old counters.old n }
-    ensures { Loaded image.now tokens.new counters.new result }
-{
-    load_tokens(image, tokens, n);
-    load_counters(image, counters, rows::transitions(n))
+    state
 }
 
 // WRITTEN FROM ARRAYS
@@ -189,15 +181,15 @@ fn store(image: &mut [u8], k: usize, x: u32)
 
 // The image of a state without reset orders. From place n and from transition n on image and state have nothing, and
 // nothing is written.
-fn save_numbers(image: &mut [u8], tokens: &[u32; 128], counters: &[u32; 64], n: usize)
-    requires { SaveAsks image.old tokens.now counters.now n }
-    ensures { image.new ≡ image_bytes (held tokens.now counters.now 0) }
+fn save_numbers(image: &mut [u8], state: &State, n: usize)
+    requires { SaveAsks image.old state.now n }
+    ensures { image.new ≡ image_bytes (held state.now.tokens state.now.counters 0) }
 {
     for p in 0..n {
-        store(image, p, tokens[p]);
+        store(image, p, state.tokens[p]);
     }
     for t in 0..rows::transitions(n) {
-        store(image, 128 + t, counters[t]);
+        store(image, 128 + t, state.counters[t]);
     }
 }
 
@@ -212,12 +204,12 @@ fn order(image: &mut [u8], t: usize)
 // The image of a state: tokens and counters, then the reset orders one by one, as there are few. From place n and from
 // transition n on the image that is lent is 0, and the state has neither tokens nor counters there.
 #[tactic(auto, using(crate::proofs::Orders::putting))]
-pub fn save(image: &mut [u8], tokens: &[u32; 128], counters: &[u32; 64], orders: u64, n: usize)
-    requires { SaveAsks image.old tokens.now counters.now n }
-    ensures { image.new ≡ image_bytes (held tokens.now counters.now orders) }
+pub fn save(image: &mut [u8], state: &State, n: usize)
+    requires { SaveAsks image.old state.now n }
+    ensures { image.new ≡ image_bytes (held state.now.tokens state.now.counters state.now.orders) }
 {
-    save_numbers(image, tokens, counters, n);
-    for t in sets::members(orders) {
+    save_numbers(image, state, n);
+    for t in sets::members(state.orders) {
         order(image, t);
     }
 }
@@ -229,8 +221,9 @@ fn put_tokens(t: &[u8], r: usize, image: &mut [u8])
     requires { (8 * r + 8 ≤ length t.now) × (get_or t.now (8 * r + 1) 0 < 128) × (length image.old ≡ 768) }
     ensures { image.new ≡ tokens_put (table t.now) r image.old }
 {
-    let place = records::wide(t[8 * r + 1]);
-    numbers::put_two(image, 4 * place, numbers::two(t, 8 * r + 4) as u32);
+    let place = usize::from(t[8 * r + 1]);
+    let tokens = u32::from(numbers::two(t, 8 * r + 4));
+    numbers::put_two(image, 4 * place, tokens);
 }
 
 // The image of a fresh net: first tokens, counters 0 and no reset orders.

@@ -22,6 +22,7 @@ fn states(
     words: &[u8],
     cycles: usize,
 ) -> io::Result<()> {
+    // The same start and the same words were accepted before, so that no answer is left to be told.
     engine::start(t, image).ok();
     state(rt, image, 0)?;
     for (cycle, word) in (1..=cycles).zip(words.chunks_exact(8)) {

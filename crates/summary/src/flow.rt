@@ -20,7 +20,7 @@ fn shift(x: Rec, sort: u8, s: &[u32; 65], moved: &mut [u64; 128])
     ensures { Shifted x sort s.now moved.old moved.new }
 {
     if x.kind == Kind::Arc as u8 && x.sort == sort {
-        moved[records::wide(x.one)] += product(x.four, s[records::wide(x.two) + 1]);
+        moved[usize::from(x.one)] += product(x.four, s[usize::from(x.two) + 1]);
     }
 }
 
@@ -37,7 +37,7 @@ pub fn moves(t: &[u8], sort: u8, s: &[u32; 65]) -> [u64; 128]
     moved
 }
 
-// One number less another, with its sign.
+// One number less another, with its sign. Both fit, so that the casts lose nothing; i64::try_from would ask again.
 fn less(put: u64, taken: u64) -> i64
     requires { (put ≤ 288225978038092800) × (taken ≤ 288225978038092800) }
     ensures { result ≡ pos put -ℤ pos taken }

@@ -76,7 +76,7 @@ fn struck(s: u64, kind: u8, one: u8) -> u64
     ensures { (k : ℕ) → bit result k ≡ (bit s k && not (eqb kind 2 && eqb one k)) }
 {
     if kind == Kind::Transition as u8 && one < 64 {
-        sets::less(s, sets::single(records::wide(one)))
+        sets::less(s, sets::single(usize::from(one)))
     } else {
         s
     }
@@ -116,7 +116,7 @@ fn tick(fired: u64, counts: &mut [u32; 65])
     }
 }
 
-// The summary of a report of at most 512 records.
+// The summary of a report of at most 512 records, whose number so fits four bytes; u32::try_from would ask again.
 fn summarize(report: &[u8]) -> [u32; 65]
     requires { length report.now ≤ 12288 }
     ensures { result ≡ summary report.now }

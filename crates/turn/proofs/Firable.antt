@@ -8,7 +8,6 @@ use native.Mathlib.Omega.{arith}
 use lib.Dec.{eqb}
 use lib.ListN.{get_or}
 use borrow.Author.Tests.{eqb-true, eq-eqb, lt-ltb, not-true}
-use Rattle.std.proofs.lemmas.Grind.{common_steps}
 use Rattle.meaning.specs.Below.{some}
 use Rattle.meaning.specs.Bytes.{bit}
 use Rattle.meaning.specs.Says.{Same}
@@ -19,28 +18,27 @@ use Rattle.meaning.proofs.Below.{some_intro, some_elim, none_intro, none_elim, e
 use Rattle.meaning.proofs.Pays.{condition_met}
 use Rattle.meaning.proofs.Sound.{SoundTable, same_record}
 use Rattle.rows.specs.declared.Declared.{Declared}
+use Rattle.rows.specs.declared.Net.{Net}
 use Rattle.rows.specs.Rows.{looks, wanted_true}
 use Rattle.rows.specs.Filed.{kept_in, joins, NetOf}
 use Rattle.rows.proofs.Shown.{two_low}
 use Rattle.edge.specs.Edges.{as_asked, FirableAsks, Raises, Ready, Able}
 use Rattle.rows.proofs.Arcs.{accepted_sound, joins_test}
 use Rattle.rows.proofs.Times.{limit_timed}
-use Rattle.turn.specs.declared.Net.{Net}
 use Rattle.state.specs.Holds.{held}
 use Rattle.turn.specs.Turn.{Laid}
 use Rattle.turn.proofs.Times.{count_is, count_low, in_time_is}
 
 -- A test behind another that need not pass.
 behind : (a b : Bool) → (a ≡ true → b ≡ true) → (not a || b) ≡ true
-behind true b f = f refl
-behind false b f = refl
+behind a b f = grind arith
 
 -- What is not other than wanted is as wanted, and the other way round.
 met_by : (b w : Bool) → cond b (not w) w ≡ false → beq w b ≡ true
-met_by b w e = grind (arith, common_steps)
+met_by b w e = grind arith
 
 agrees : (b : Bool) → cond b (not b) b ≡ false
-agrees b = grind (arith, common_steps)
+agrees b = grind arith
 
 module _ {bs : List ℕ} {n : ℕ} {rows : List ℕ} {w s : List (List ℕ)} {heads posts times : List ℕ} {known : Declared}
     (net : NetOf bs n rows w s heads posts times known) where
@@ -159,10 +157,9 @@ module _ {bs : List ℕ} {n : ℕ} {rows : List ℕ} {w s : List (List ℕ)} {he
               condition_met tb word t e r n.0 (eq-eqb _ _ n.1) n.2,
             ) (agrees (eqb (tb.sort r) 0))
 
-module _ {bs : List ℕ} {net : Net} {rows arcs times : List ℕ} {w s : List (List ℕ)} {heads posts : List ℕ}
-    (laid : Laid bs net rows arcs times w s heads posts) where
+module _ {bs : List ℕ} {net : Net} (laid : Laid bs net) where
   -- A number that is not there has no conditions.
-  pub firable_asks : FirableAsks net.conditional rows
+  pub firable_asks : FirableAsks net.conditional net.rows.now
   firable_asks =
       record {
         conditional_is = laid.conditional_is;
@@ -173,7 +170,7 @@ module _ {bs : List ℕ} {net : Net} {rows arcs times : List ℕ} {w s : List (L
   module _ (tokens counters : List ℕ) (orders on : ℕ)
       (on_is : (t : ℕ) → t < 64 → bit on t ≡ (transition (table bs) t && enabled (table bs) (λ p. get_or tokens p 0) t))
       {counters' : List ℕ}
-      (raises : Raises net.timed orders on times counters counters') where
+      (raises : Raises net.timed orders on net.times.now counters counters') where
     -- The counters after the falling edge.
     pub counts_are : (t : ℕ) → t < 64 → get_or counters' t 0 ≡ counted (table bs) (held tokens counters orders) t
     counts_are t l =
@@ -190,8 +187,8 @@ module _ {bs : List ℕ} {net : Net} {rows arcs times : List ℕ} {w s : List (L
 
     -- The firable at the rising edge.
     pub able_are : ((t : ℕ) → t < 64 → get_or counters t 0 ≤ 65535) → (ready able word : ℕ)
-        → Ready net.timed on times counters' ready
-        → Able on net.timed ready rows word able → (t : ℕ) → t < 64
+        → Ready net.timed on net.times.now counters' ready
+        → Able on net.timed ready net.rows.now word able → (t : ℕ) → t < 64
         → bit able t ≡ firable (table bs) (falling (table bs) (held tokens counters orders)) word t
     unfolding firable falling
     able_are small ready able word ready_is able_is t l =
@@ -212,4 +209,4 @@ module _ {bs : List ℕ} {net : Net} {rows arcs times : List ℕ} {w s : List (L
       where
         order : (a b z i c : Bool) → ((((a && b) && not (not z)) || ((not z && (a && b)) && i)) && c)
             ≡ (a && ((b && c) && (z || i)))
-        order a b z i c = grind (arith, common_steps)
+        order a b z i c = grind arith

@@ -8,8 +8,8 @@ use native.Mathlib.Omega.{arith}
 use lib.Dec.{ltb, eqb}
 use lib.ListN.{length}
 use borrow.Author.Tests.{eqb-true, eq-eqb, ltb-false, lt-ltb}
-use Rattle.std.proofs.lemmas.Grind.{common_steps}
 use Rattle.meaning.specs.Below.{some}
+use Rattle.std.proofs.lemmas.Bool.Decides.{nat_tests}
 use Rattle.meaning.specs.Bytes.{bit}
 use Rattle.meaning.specs.Table.{Table, table, is, basic, test}
 use Rattle.meaning.specs.Answer.{Answer, accepted}
@@ -91,31 +91,22 @@ module _ {bs : List ℕ} {n : ℕ} {rows : List ℕ} {w s : List (List ℕ)} {he
   -- What a place activates, by its tokens.
   pub active_bit : (v k : ℕ) (p : ℕ) {set : ℕ} → set ≡ cond (eqb v 0) 0 (actions rows p)
       → bit set k ≡ (bit (actions rows p) k && ltb 0 v)
-  active_bit v k p {set} e = ap (λ (z : ℕ). bit z k) e ∙ go (eqb v 0) refl
-    where
-      go : (b : Bool) → eqb v 0 ≡ b → bit (cond b 0 (actions rows p)) k ≡ (bit (actions rows p) k && ltb 0 v)
-      go b q = grind (arith, common_steps, bit_zero k)
+  active_bit v k p {set} e = grind (arith, nat_tests, bit_zero k)
 
   -- FUNCTIONS
 
   pub functions_is : (F : ℕ → Bool) (k : ℕ) → k < 64 → some 64 (λ t. F t && bit (functions rows t) k) ≡ executed tb F k
   unfolding executed kept_in
   functions_is F k l =
-      some_same 64 _ _ (λ t h. turned (F t) (bit (functions rows t) k))
+      some_same 64 _ _ (λ t h. grind arith)
       ∙ by_records 6 64 k (omega arith) (omega arith) l
       (λ r h e. transition_low (of_kind tb r 7 (sound.shown r h) (eqb-true (tb.kind r) 7 e)) refl) F
-    where
-      turned : (a b : Bool) → (a && b) ≡ (b && a)
-      turned a b = grind (arith, common_steps)
 
   -- STARVED TRANSITIONS
 
   -- An input arc that is no inhibitor is a basic or a test arc.
   asking : (r : ℕ) → (input tb r && not (eqb (tb.sort r) 2)) ≡ (basic tb r || test tb r)
-  asking r = go (is tb 3 r) (tb.sort r)
-    where
-      go : (a : Bool) (k : ℕ) → ((a && ltb k 3) && not (eqb k 2)) ≡ ((a && eqb k 0) || (a && eqb k 1))
-      go a k = grind (arith, common_steps)
+  asking r = grind (arith, nat_tests)
 
   pub starved_is : (m : ℕ → ℕ) (F : ℕ → Bool) (taken : ℕ → ℕ) → ((p : ℕ) → p < 128 → taken p ≡ withdrawn tb F p)
       → (t : ℕ) → t < 64
@@ -123,21 +114,14 @@ module _ {bs : List ℕ} {n : ℕ} {rows : List ℕ} {w s : List (List ℕ)} {he
       ≡ starved tb m F t
   unfolding starved kept_in
   starved_is m F taken taken_is t l =
-      some_same 128 _ _ (λ p h. front (ltb 0 (taken p)) (bit (inputs rows p) t)
-      (lacks (cell w p t) (cell s p t) (m p - taken p)))
+      some_same 128 _ _ (λ p h. grind arith)
       ∙ by_records 0 128 t (omega arith) (omega arith) l (λ r h e. omega (arith, net.below r h, net.few)) g
       ∙ some_same tb.records _ _ (λ r h. arc r h (input tb r) (eqb (tb.two r) t) refl refl)
     where
       g : ℕ → Bool
       g p = ltb 0 (taken p) && lacks (cell w p t) (cell s p t) (m p - taken p)
 
-      front : (a b c : Bool) → (a && (b && c)) ≡ (b && (a && c))
-      front a b c = grind (arith, common_steps)
-
       -- A test that fails leaves nothing of an arc, and one that passes has the arc's weight and sort in its cells.
-      none : (r : ℕ) → input tb r ≡ false → (basic tb r || test tb r) ≡ false
-      none r e = sym (asking r) ∙ rw e
-
       arc : (r : ℕ) → r < tb.records → (a b : Bool) → input tb r ≡ a → eqb (tb.two r) t ≡ b
           → (a && b && g (tb.one r))
           ≡ ((basic tb r || test tb r) && b && (ltb 0 (withdrawn tb F (tb.one r))
@@ -147,10 +131,9 @@ module _ {bs : List ℕ} {n : ℕ} {rows : List ℕ} {w s : List (List ℕ)} {he
           let low = ranges (accepted_laid net) r h (input_test tb r x).0 in
           let two = eqb-true (tb.two r) t y in
           rw (← taken_is (tb.one r) low.0, ← two, c.0, c.1, ← asking r, x, and-true (not (eqb (tb.sort r) 2)))
-          (front (ltb 0 (taken (tb.one r))) (not (eqb (tb.sort r) 2))
-          (ltb (m (tb.one r) - taken (tb.one r)) (tb.four r)))
+          (grind arith)
       arc r h true false x y = rw (and-false (basic tb r || test tb r))
-      arc r h false b x y = rw (none r x)
+      arc r h false b x y = grind (arith, x, asking r)
 
   -- Whoever takes from a place takes something.
   pub weighty : (p t : ℕ) → p < 128 → t < 64 → bit (takers rows p) t ≡ true → 1 ≤ cell w p t

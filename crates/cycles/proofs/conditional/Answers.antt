@@ -1,4 +1,4 @@
--- At first the set has none; from m on a row has no bit, and as it is one word it is 0.
+-- From m on a row has no bit, and as it is one word it is 0.
 use mathlib.Core.Bool.{not}
 use mathlib.Core.Path.{sym, ap, ◌∙◌}
 use Prim.Native.Nat.{◌+◌, ◌*◌, ◌^◌, ◌<◌}
@@ -6,12 +6,9 @@ use native.Mathlib.Omega.{arith}
 use lib.Dec.{eqb}
 use borrow.Author.Tests.{eq-eqb}
 use Rattle.sets.proofs.Bits.{bit_zero, same_set}
-use Rattle.sets.proofs.Walk.{no_number, below_end}
+use Rattle.sets.proofs.Walk.{below_end}
 use Rattle.rows.specs.Rows.{looks}
 use Rattle.cycles.proofs.conditional.Goals as goal
-
-pub loop-t-init : goal.loop-t-init
-loop-t-init c = no_number (λ k. not (eqb (looks c.args.rows.now k) 0))
 
 pub returns-clause-tells : goal.returns-clause-tells
 returns-clause-tells c t h =

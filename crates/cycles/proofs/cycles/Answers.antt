@@ -2,27 +2,17 @@
 use mathlib.Core.Path.{◌≡◌, refl}
 use native.Mathlib.Numerals.{add-one}
 use native.Mathlib.Omega.{arith}
-use Rattle.state.proofs.Past.{blank_past}
 use Rattle.state.proofs.Read.{empty_row}
 use Rattle.turn.proofs.Rows.{no_bit}
-use Rattle.cycles.proofs.Turns.{fitting, begins, idle, finished, bursts, turned}
+use Rattle.cycles.proofs.Turns.{load_asks, save_asks, begins, idle, finished, bursts, turned}
 use Rattle.cycles.proofs.cycles.Goals as goal
 
-pub load-orders-requires : goal.load-orders-requires
-load-orders-requires c =
-    let asks = c.requires in
-    let net = asks.of.laid.net_of in
-    record {
-      whole = asks.of.whole;
-      few = net.few;
-      blank = blank_past _ net.below _ (fitting asks.of);
-      no_tokens = asks.no_tokens;
-      no_counters = asks.no_counters;
-    }
+pub load-state-requires : goal.load-state-requires
+load-state-requires c = load_asks c.requires.of
 
 pub level-requires : goal.level-requires
 level-requires c =
-    let load = c.load-orders.ensures in
+    let load = c.load-state.ensures in
     let of = c.requires.of in
     let net = of.laid.net_of in
     record {
@@ -31,24 +21,24 @@ level-requires c =
       weights_there = of.laid.sizes.weights_are;
       sorts_there = of.laid.sizes.sorts_are;
       tokens_low = load.small.few_tokens;
-      no_token = (idle of (begins of load.holds load.small)).no_tokens;
+      no_token = (idle of (begins of load)).no_tokens;
       no_arc = λ p t h l. no_bit net 0 p t (omega arith) h l;
-      none_kept = refl;
-      no_levels = refl;
+      words = c.requires.words;
+      none_held = refl;
+      none_active = refl;
+      none_lacking = refl;
+      none_from = refl;
+      none_upto = refl;
     }
 
 pub loop-i-init : goal.loop-i-init
 loop-i-init c =
-    let load = c.load-orders.ensures in
+    let load = c.load-state.ensures in
     record {
       within = omega arith;
-      at = λ bs of. begins of load.holds load.small;
+      at = λ bs of. begins of load;
       poised =
           record {
-            tokens_size = load.places_are;
-            counters_size = load.transitions_are;
-            taken_size = (empty_row 128 _ refl).0;
-            put_size = (empty_row 128 _ refl).0;
             tokens_low = load.small.few_tokens;
             counters_low = load.small.low_counters;
             levels_hold = c.level.ensures;
@@ -64,6 +54,7 @@ returns-in-Some c =
         c.loop-i-test.true,
         bursts of (c.loop-i.invariant.at bs of) c.loop-i-test.true c.eight-word.ensures
             (c.step-r.ensures.stepped bs of.laid) c.in-Some.is,
+        refl,
       );
     }
 
@@ -78,8 +69,11 @@ loop-i-preserved c =
       poised = c.step-r.ensures.poised c.in_default.is;
     }
 
+pub save-requires : goal.save-requires
+save-requires c = save_asks c.requires.of (c.loop-i.invariant.at _ c.requires.of)
+
 pub returns : goal.returns
 returns c =
     let at = c.loop-i in
     let all : at.i ≡ c.args.count = omega (arith, c.loop-i-test.false, at.invariant.within) in
-    record { comes = λ bs of. finished of (rw all at (at.invariant.at bs of)) }
+    record { comes = λ bs of. finished of (rw all at (at.invariant.at bs of)) c.save.ensures }

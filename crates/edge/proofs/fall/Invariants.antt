@@ -4,5 +4,5 @@ use Rattle.edge.proofs.fall.Given as goal
 
 abbrev pub invariant-loop-t : goal.invariant-loop-t
 invariant-loop-t l =
-    Walked (next_count l.orders l.on l.times) (timely l.on l.times) l.timed l.initial.counters
+    Walked (next_count l.orders l.on l.net.times.now) (timely l.on l.net.times.now) l.net.timed l.initial.counters
     l.t-iterator.left l.counters l.ready

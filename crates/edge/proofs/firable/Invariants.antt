@@ -5,5 +5,5 @@ use Rattle.edge.proofs.firable.Given as goal
 
 abbrev pub invariant-loop-t : goal.invariant-loop-t
 invariant-loop-t l =
-    Sifted (wanted_in l.rows l.word) l.conditional l.initial.able (bit_and l.initial.able l.conditional) l.able
-    l.t-iterator.left
+    Sifted (wanted_in l.net.rows.now l.word) l.net.conditional l.initial.able
+    (bit_and l.initial.able l.net.conditional) l.able l.t-iterator.left

@@ -11,5 +11,7 @@ fires_now left out m rows arcs w s t = not (waits_for arcs left t) && keeps m ro
 
 abbrev pub invariant-loop-t : goal.invariant-loop-t
 invariant-loop-t l =
-    Walked l.left l.out (waits_for l.arcs l.left) (fires_now l.left l.out l.tokens l.rows l.arcs l.w l.s)
-    l.t-iterator.left l.keep l.more
+    let net = l.net in
+    Walked l.round.left l.round.out (waits_for net.arcs.now l.round.left)
+    (fires_now l.round.left l.round.out l.tokens net.rows.now net.arcs.now net.weights.now net.sorts.now)
+    l.t-iterator.left l.after.left l.after.out

@@ -1,12 +1,10 @@
-use mathlib.Core.Bool.{true}
-use mathlib.Core.Path.{◌≡◌}
-use Prim.Native.Nat.{ℕ}
-use Rattle.meaning.specs.Bytes.{bit}
-use Rattle.firing.specs.Fired.{stopped_among}
+use Prim.Native.Nat.{ℕ, ◌+◌}
+use Rattle.firing.specs.Fired.{stopped_at}
+use Rattle.firing.proofs.Words.{Searched}
 use Rattle.firing.proofs.stopped_in.Given as goal
 
 abbrev pub invariant-loop-k : goal.invariant-loop-k
 invariant-loop-k l =
-    ((p : ℕ) → bit l.k-iterator.left p ≡ true → bit l.word p ≡ true)
-    × (stopped_among l.tokens l.rows l.w l.s l.word l.from l.g l.t ≡ stopped_among l.tokens l.rows l.w l.s
-    l.k-iterator.left l.from l.g l.t)
+    let net = l.net in
+    Searched (λ (k : ℕ). stopped_at l.tokens net.rows.now net.weights.now net.sorts.now l.g l.t (l.from + k)) l.word
+    l.k-iterator.left

@@ -1,34 +1,23 @@
 -- The loop keeps the level of the tokens at the arcs that are asked: those whom they stop are held back, and none of
 -- their weights is passed.
-use mathlib.Core.Bool.{true}
+use mathlib.Core.Bool.{Bool, true, ◌&&◌, ◌||◌}
 use mathlib.Core.Path.{◌≡◌, refl, ◌∙◌}
 use Prim.Native.Nat.{ℕ}
 use native.Mathlib.Omega.{arith}
 use lib.ListN.{get_or}
 use Rattle.std.proofs.lemmas.Bool.Decides.{nat_tests}
 use Rattle.meaning.specs.Bytes.{bit}
-use Rattle.meaning.proofs.Bool.{not_both}
 use Rattle.meaning.proofs.Fired.{and_same}
 use Rattle.sets.proofs.Bits.{bit_zero}
 use Rattle.sets.proofs.Taking.{out_more, kept}
 use Rattle.levels.specs.Levels.{stops_of, lacks_of}
-use Rattle.levels.proofs.Walk.{all_in}
 use Rattle.levels.proofs.Sides.{KeepsSide, same_stops, same_lacks}
 use Rattle.levels.proofs.level_of.Goals as goal
 
-pub loop-t-init : goal.loop-t-init
-loop-t-init c =
-    rw (c.into_iter-t-iterator.ensures.into_iter_gives, c.members-t-items.ensures)
-    record {
-      roof = grind arith;
-      low = grind arith;
-      high = grind arith;
-      some_token = grind arith;
-      no_token = grind arith;
-      held_is = λ t. rw bit_zero;
-      lacks_is = λ t. rw bit_zero;
-      sides = λ t out e. not_both e out;
-    }
+-- With nothing left all that pass are kept.
+all_in : (f : ℕ → Bool) (arcs left r t : ℕ) → left ≡ 0 → (bit r t || (bit left t && f t)) ≡ (bit arcs t && f t)
+    → bit r t ≡ (bit arcs t && f t)
+all_in f arcs left r t e q = grind (arith, bit_zero t)
 
 pub loop-t-preserved : goal.loop-t-preserved
 loop-t-preserved c =

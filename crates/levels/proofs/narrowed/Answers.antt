@@ -5,5 +5,5 @@ use Rattle.levels.proofs.narrowed.Goals as goal
 
 pub returns-then-sort-eq2 : goal.returns-then-sort-eq2
 returns-then-sort-eq2 c =
-    let missed : c.args.tokens < c.args.weight = c.if-tokens-wanted.true in
+    let missed : c.args.tokens < c.args.weight = omega arith in
     grind arith

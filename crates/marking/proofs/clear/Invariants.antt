@@ -3,4 +3,4 @@ use Rattle.marking.specs.Sweep.{Cleared}
 use Rattle.marking.proofs.clear.Given as goal
 
 abbrev pub invariant-loop-p : goal.invariant-loop-p
-invariant-loop-p l = Cleared l.p l.initial.taken l.initial.put l.taken l.put
+invariant-loop-p l = Cleared l.p l.initial.moves.taken l.initial.moves.put l.moves.taken l.moves.put

@@ -3,4 +3,4 @@ use Rattle.marking.specs.Sweep.{Swept}
 use Rattle.marking.proofs.sweep.Given as goal
 
 abbrev pub invariant-loop-p : goal.invariant-loop-p
-invariant-loop-p l = Swept l.p l.initial.tokens l.taken l.put l.initial.levels l.tokens l.levels l.all
+invariant-loop-p l = Swept l.p l.initial.tokens l.moves.taken l.moves.put l.initial.kept l.tokens l.kept l.all

@@ -73,9 +73,12 @@ good x k h counts half under =
 pub returns : goal.returns
 returns c =
     let x = c.args.x in
-    let no_2 = good x c.in-Ok.kind c.from.result c.in-Ok.ensures c.from.ensures (rw c.requires at c.if-row-from.false) in (
+    let no_2 =
+    good x c.in-Ok.kind c.from-2.result c.in-Ok.ensures c.from-2.ensures
+    (rw (c.requires, c.from.ensures) at c.if-row-from.false) in (
       sym (verdict _ false false no_2
-          (fields_tested x x.kind refl _ (rw c.in-Ok.ensures at c.bad_value.ensures) _ (rw c.requires at c.over.ensures)
+          (fields_tested x x.kind refl _ (rw c.in-Ok.ensures at c.bad_value.ensures) _
+          (rw (c.requires, c.from.ensures) at c.over.ensures)
           ∙ or_false c.if-over.false c.if-bad_value.false)),
       c.in-Ok.ensures,
     )
@@ -89,20 +92,26 @@ returns-then-row-from c =
     let there = numbered c.in-Ok.kind x.kind c.in-Ok.ensures in
     is_2 x c.args.r
     (sym (sort_tested x x.kind refl there.0 there.1)
-    ∙ lt-ltb _ _ (rw (c.from.ensures, c.requires) at c.if-row-from.true))
+    ∙ lt-ltb _ _ (rw (c.from-2.ensures, c.requires, c.from.ensures) at c.if-row-from.true))
 
 -- Past it there is no 2, and the two tests of the columns are that of 3.
 pub returns-then-over : goal.returns-then-over
 returns-then-over c =
     let x = c.args.x in
-    let no_2 = good x c.in-Ok.kind c.from.result c.in-Ok.ensures c.from.ensures (rw c.requires at c.if-row-from.false) in
+    let no_2 =
+    good x c.in-Ok.kind c.from-2.result c.in-Ok.ensures c.from-2.ensures
+    (rw (c.requires, c.from.ensures) at c.if-row-from.false) in
     is_3 x c.args.r no_2
-    (fields_tested x x.kind refl _ refl _ (rw c.requires at c.over.ensures) ∙ or_true_left _ c.if-over.true)
+    (fields_tested x x.kind refl _ refl _ (rw (c.requires, c.from.ensures) at c.over.ensures)
+    ∙ or_true_left _ c.if-over.true)
 
 pub returns-then-bad_value : goal.returns-then-bad_value
 returns-then-bad_value c =
     let x = c.args.x in
-    let no_2 = good x c.in-Ok.kind c.from.result c.in-Ok.ensures c.from.ensures (rw c.requires at c.if-row-from.false) in
+    let no_2 =
+    good x c.in-Ok.kind c.from-2.result c.in-Ok.ensures c.from-2.ensures
+    (rw (c.requires, c.from.ensures) at c.if-row-from.false) in
     is_3 x c.args.r no_2
-    (fields_tested x x.kind refl _ (rw c.in-Ok.ensures at c.bad_value.ensures) _ (rw c.requires at c.over.ensures)
+    (fields_tested x x.kind refl _ (rw c.in-Ok.ensures at c.bad_value.ensures) _
+    (rw (c.requires, c.from.ensures) at c.over.ensures)
     ∙ or_true_right c.over.result c.if-bad_value.true)

@@ -68,12 +68,12 @@ returns-in-Place c =
     let x = c.args.x in
     let kind : x.kind ≡ 1 = number_is c.requires.kind_is c.in-Place.is in
     let kept : Kept x c.args.rows.now c.args.rows.now = in_no_row x _ 1 kind refl refl refl refl refl in
-    told c.has_place.result c.then_some.ensures (c.has_place.ensures ∙ rw (kind, c.wide-p.ensures))
+    told c.has_place.result c.then_some.ensures (c.has_place.ensures ∙ rw (kind, c.from-p.ensures))
     (rows_alone refl)
     (λ e.
     record {
       filed =
-          λ tb reads g. files_place reads g kind c.wide-p.ensures
+          λ tb reads g. files_place reads g kind c.from-p.ensures
           c.with_place.ensures.0 c.with_place.ensures.1 kept;
       paired = λ tb reads. paired_next reads kept;
     })
@@ -86,7 +86,7 @@ returns-in-Transition c =
     let x = c.args.x in
     let kind : x.kind ≡ 2 = number_is c.requires.kind_is c.in-Transition.is in
     let kept : Kept x c.args.rows.now c.args.rows.now = in_no_row x _ 2 kind refl refl refl refl refl in
-    told c.has.result c.then_some-in-Transition.ensures (c.has.ensures ∙ rw (kind, c.wide-t.ensures))
+    told c.has.result c.then_some-in-Transition.ensures (c.has.ensures ∙ rw (kind, c.from-t.ensures))
     (record {
       rows_same = refl;
       weights_same = refl;
@@ -98,7 +98,7 @@ returns-in-Transition c =
     (λ e.
     record {
       filed = λ tb reads g.
-          files_transition reads g kind c.wide-t.ensures
+          files_transition reads g kind c.from-t.ensures
           c.with_transition.ensures.0 c.with_transition.ensures.1 c.keep_times.ensures kept;
       paired = λ tb reads. paired_next reads kept;
     })

@@ -27,8 +27,8 @@ unwanted x k s =
 pub returns-then-x-eq0-clause-kept : goal.returns-then-x-eq0-clause-kept
 returns-then-x-eq0-clause-kept c =
     let x = c.args.x in
-    let t : c.wide-t.result ≡ x.one = c.wide-t.ensures in
-    let k : c.wide-c.result ≡ x.two = c.wide-c.ensures in (
+    let t : c.from-t.result ≡ x.one = c.from-t.ensures in
+    let k : c.from-c.result ≡ x.two = c.from-c.ensures in (
       λ e. kept_two x _ c.enter.ensures.entered (omega (arith, t)) k (omega arith)
           c.enter-then-x-eq0.ensures.entered (omega (arith, t)) k (omega arith)
           (wanted x c.requires.1 c.if-x-eq0.true),
@@ -37,7 +37,7 @@ returns-then-x-eq0-clause-kept c =
 
 pub returns-else-x-eq0-clause-kept : goal.returns-else-x-eq0-clause-kept
 returns-else-x-eq0-clause-kept c = (
-  λ e. kept_one c.args.x _ c.enter.ensures.entered (omega (arith, c.wide-t.ensures)) c.wide-c.ensures (omega arith)
+  λ e. kept_one c.args.x _ c.enter.ensures.entered (omega (arith, c.from-t.ensures)) c.from-c.ensures (omega arith)
       (unwanted c.args.x c.requires.1 c.if-x-eq0.false),
   c.enter.ensures.entered.size,
 )

@@ -35,8 +35,8 @@ pub returns-clause-input_kept : goal.returns-clause-input_kept
 returns-clause-input_kept c =
     let x = c.args.x in
     let rows = c.args.rows.now in
-    let p : c.wide-p.result ≡ x.one = c.wide-p.ensures in
-    let t : c.wide-t.result ≡ x.two = c.wide-t.ensures in
+    let p : c.from-p.result ≡ x.one = c.from-p.ensures in
+    let t : c.from-t.result ≡ x.two = c.from-t.ensures in
     let first = c.enter.ensures.entered in
     let rows_kept : Kept x rows c.if-x-eq0.rows × (length c.if-x-eq0.rows ≡ length rows) =
     elim c.if-x-eq0.branch [

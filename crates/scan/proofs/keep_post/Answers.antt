@@ -26,8 +26,8 @@ returns-clause-post_kept c =
       heads_size = length-set c.args.heads.now _ _;
       posts_size = stored_size c.args.posts.now c.args.r _ _ _ c.requires.room.2;
       kept = λ e.
-          kept_one x _ c.enter.ensures.entered (omega (arith, c.wide.ensures)) c.wide-t.ensures (omega arith)
+          kept_one x _ c.enter.ensures.entered (omega (arith, c.from.ensures)) c.from-t.ensures (omega arith)
           (post_rows x c.requires.kind_value.0 c.requires.kind_value.1);
-      head = λ e. rw (c.wide-t.ensures, add-one c.args.r);
-      entry = λ e. rw (c.wide-t.ensures, c.half.ensures);
+      head = λ e. rw (c.from-t.ensures, add-one c.args.r);
+      entry = λ e. rw (c.from-t.ensures, c.from-2.ensures);
     }

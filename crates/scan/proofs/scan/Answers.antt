@@ -29,7 +29,7 @@ nothing None d e P Q q m = (cc, m)
 nothing (Some x) d e P Q q m = absurd (cc)
 
 pub loop-r-init : goal.loop-r-init
-loop-r-init c = passed_none _ c.requires.blank
+loop-r-init c = passed_none _ c.default-known.result c.requires.blank c.default-known.ensures
 
 pub keep-requires-clause-keep_asks : goal.keep-requires-clause-keep_asks
 keep-requires-clause-keep_asks c =

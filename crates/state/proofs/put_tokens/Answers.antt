@@ -7,8 +7,6 @@ use Rattle.state.proofs.put_tokens.Goals as goal
 
 pub returns : goal.returns
 returns c =
-    let s = c in
-    let read = inside s.args.t.now s.args.r (omega (arith, s.requires.0)) in
-    let two = c in
-    let four : two.two.result ≡ (table s.args.t.now).four s.args.r = two.two.ensures ∙ read.four in
-    c.put_two.ensures ∙ rw (two.wide-place.ensures, read.one, four)
+    let read = inside c.args.t.now c.args.r (omega (arith, c.requires.0)) in
+    let four : c.two.result ≡ (table c.args.t.now).four c.args.r = c.two.ensures ∙ read.four in
+    c.put_two.ensures ∙ rw (c.from-place.ensures, read.one, c.from-tokens.ensures, four)

@@ -9,5 +9,5 @@ use Rattle.state.proofs.save.Given as goal
 
 abbrev pub invariant-loop-t : goal.invariant-loop-t
 invariant-loop-t l =
-    (l.image ≡ image_bytes (but (held l.tokens l.counters l.orders) l.t-iterator.left))
-    × ((t : ℕ) → bit l.t-iterator.left t ≡ true → bit l.orders t ≡ true)
+    (l.image ≡ image_bytes (but (held l.state.tokens l.state.counters l.state.orders) l.t-iterator.left))
+    × ((t : ℕ) → bit l.t-iterator.left t ≡ true → bit l.state.orders t ≡ true)

@@ -1,7 +1,7 @@
 -- Each half of the places has its own set.
 use borrow.Author.Tests.{lt-ltb, le-ltb}
 use Rattle.rows.specs.Rows.{has}
-use Rattle.rows.proofs.has_place.Goals as goal
+use Rattle.rows.proofs.Declared.has_place.Goals as goal
 
 pub returns-then-p-lt64 : goal.returns-then-p-lt64
 unfolding has
