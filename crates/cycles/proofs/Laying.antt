@@ -107,7 +107,7 @@ module _ {bs : List ℕ} {n known : ℕ} {img ws report rows times : List ℕ} {
       }
 
   -- So many of the words can be done, into a report of the same length.
-  cycles_of : (count : ℕ) (out : List ℕ) → count ≤ length ws / 8 → length out ≡ length report
+  pub cycles_of : (count : ℕ) (out : List ℕ) → count ≤ length ws / 8 → length out ≡ length report
       → CyclesOf bs net img ws count out
   cycles_of count out most same =
       record {

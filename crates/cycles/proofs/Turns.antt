@@ -56,7 +56,7 @@ pub record Turned (net : Net) (img ws : List ℕ) (count : ℕ) (report : List �
 module _ {bs : List ℕ} {net : Net} {img ws : List ℕ} {count : ℕ} {report : List ℕ}
     (of : CyclesOf bs net img ws count report) where
   -- The image that is lent fits.
-  fitting : Fits (table bs) (image img)
+  pub fitting : Fits (table bs) (image img)
   fitting k l = first_before 192 (wrong (table bs) (image img)) k (rw of.fits l)
 
   blank : BlankPast (image img) (8 * net.eights)

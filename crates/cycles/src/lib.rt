@@ -15,6 +15,7 @@ use answers::Refusal;
 use levels::Kept;
 use marking::Moves;
 use rows::{Filed, LIMIT, LOOKS, Net};
+use state::State;
 
 // The timed transitions of the first m: those whose counters rise. From m on none does.
 #[tactic(auto, using(sets::proofs::Walk::no_number))]
@@ -116,7 +117,7 @@ fn cycles(
     requires { CyclesAsks net.now image.old words.now count report.old }
     ensures { Cycled net.now image.old words.now count report.old result image.new report.new }
 {
-    let mut state = state::load(image, 8 * net.eights);
+    // What begins empty is made before the image is read: behind it, a kilobyte was cleared twice.
     let mut kept = Kept {
         held: [0; 128],
         active: [0; 128],
@@ -125,11 +126,17 @@ fn cycles(
         upto: [0; 128],
         left: [0; 128],
     };
-    level(net, &state.tokens, &mut kept);
     let mut moves = Moves {
         taken: [0; 128],
         put: [0; 128],
     };
+    let mut state = State {
+        tokens: [0; 128],
+        counters: [0; 64],
+        orders: 0,
+    };
+    state::load(image, 8 * net.eights, &mut state);
+    level(net, &state.tokens, &mut kept);
     for i in 0..count {
         let word = numbers::eight(words, 8 * i);
         let r = turn::step(net, &mut state, &mut kept, &mut moves, word);

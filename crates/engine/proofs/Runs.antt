@@ -1,5 +1,6 @@
 -- What run leaves: its table's answer, else what is said of the lent bytes, else what the cycles leave.
 use mathlib.Core.List.{List, ◌++◌, append_assoc}
+use mathlib.Core.Logic.{◌≢◌}
 use mathlib.Core.Path.{◌≡◌, refl, sym, ap, ◌∙◌}
 use Prim.Native.Nat.{ℕ, ◌<◌}
 use Rattle.std.specs.Prelude.{Result}
@@ -19,10 +20,10 @@ use Rattle.rows.specs.declared.Declared.{Declared}
 use Rattle.state.specs.Fit.{wrong_by}
 use Rattle.state.proofs.Fitted.{first_wrong_same}
 use Rattle.answers.specs.declared.Refusal.{Refusal}
-use Rattle.answers.specs.Numbered.{refusal_told, run_told}
+use Rattle.answers.specs.Numbered.{run_told}
 use Rattle.cycles.specs.Cycles.{Ready, PlayOf, Ends}
 use Rattle.engine.specs.Said.{lent_checks, ProceedOf}
-use Rattle.engine.proofs.Starts.{refused_too, not_0}
+use Rattle.engine.proofs.Starts.{refused_too}
 use Rattle.engine.proofs.Beside.{lent_same, long_is, fits_is, few_is, room_is}
 
 module _ {bs : List ℕ} {n : ℕ} {known : Declared} {rows times : List ℕ} {w s : List (List ℕ)} {heads posts : List ℕ}
@@ -61,19 +62,20 @@ module _ (bs img ws report : List ℕ) where
       (append_assoc (table_checks bs) (state_checks (table bs) img) (word_checks ws report))
 
   -- A refusal before any cycle leaves every byte.
-  refuses : (e : Refusal) → verdict bs img ws report ≡ refusal_told e → Ran bs img ws report (refusal_told e) img report
-  refuses e same =
-      let left = run_refused_leaves bs img ws report (λ z. not_0 e (ap (λ (b : Answer). b.number) (sym same) ∙ z)) in
-      record { answer_is = sym same ∙ sym left.2; image_is = sym left.0; report_is = sym left.1 }
+  refuses : {a : Answer} → verdict bs img ws report ≡ a → a.number ≢ 0 → Ran bs img ws report a img report
+  refuses e n =
+      let left = run_refused_leaves bs img ws report (λ z. n (ap (λ (b : Answer). b.number) (sym e) ∙ z)) in
+      record { answer_is = sym e ∙ sym left.2; image_is = sym left.0; report_is = sym left.1 }
 
   -- The table is refused: that is the answer.
-  pub refused_by_table : (e : Refusal) → refusal_told e ≡ check bs → Ran bs img ws report (refusal_told e) img report
+  pub refused_by_table : {a : Answer} → a ≡ check bs → a.number ≢ 0 → Ran bs img ws report a img report
   unfolding check
-  refused_by_table e same =
-      refuses e
+  refused_by_table e n =
+      refuses
       (in_order
-      ∙ refused_too (table_checks bs) behind (λ z. not_0 e (ap (λ (b : Answer). b.number) same ∙ z))
-      ∙ sym same)
+      ∙ refused_too (table_checks bs) behind (λ z. n (ap (λ (b : Answer). b.number) e ∙ z))
+      ∙ sym e)
+      n
 
   module _ {n : ℕ} {known : Declared} {rows times : List ℕ} {w s : List (List ℕ)} {heads posts : List ℕ}
       (of : ProceedOf bs n known rows times w s heads posts) where
@@ -93,15 +95,12 @@ module _ (bs img ws report : List ℕ) where
         zero_table = ap (λ (a : Answer). a.number) of.net_of.sound
 
     -- Something is said of the lent bytes: that is the answer.
-    pub refused_by_lent : (e : Refusal) → refusal_told e ≡ decide (lent_checks img ws report known times) (accepted 0)
-        → Ran bs img ws report (refusal_told e) img report
-    refused_by_lent e same = refuses e (sym lent_decides ∙ sym same)
+    pub refused_by_lent : {a : Answer} → a ≡ decide (lent_checks img ws report known times) (accepted 0) → a.number ≢ 0
+        → Ran bs img ws report a img report
+    refused_by_lent e n = refuses (sym lent_decides ∙ sym e) n
 
     -- Nothing is: the cycles may be done, and what they leave is what run leaves.
-    module _ (fine : accepted 0 ≡ decide (lent_checks img ws report known times) (accepted 0)) where
-      none : (decide (lent_checks img ws report known times) (accepted 0)).number ≡ 0
-      none = ap (λ (a : Answer). a.number) (sym fine)
-
+    module _ (none : (decide (lent_checks img ws report known times) (accepted 0)).number ≡ 0) where
       pub ready : Ready bs img ws report
       ready =
           record {

@@ -13,7 +13,7 @@ use Rattle.meaning.specs.Defined.{table_checks, check}
 use Rattle.meaning.specs.Image.{image_bytes, fresh}
 use Rattle.meaning.specs.Calls.{start, start_checks}
 use Rattle.meaning.proofs.Decide.{Clean, Found, search_all, decide_pass, decide_first, decide_append}
-use Rattle.meaning.proofs.Decide.{accepted_clean}
+use Rattle.meaning.proofs.Decide.{decide_clean, accepted_clean}
 use Rattle.meaning.proofs.Tables.{table_refusing}
 use Rattle.answers.specs.declared.Refusal.{Refusal}
 use Rattle.answers.specs.Numbered.{number_of}
@@ -32,6 +32,13 @@ refused_too (c ∷ cs) ys n =
     (λ (f : (k : ℕ) × Found c k).
     decide_first c (cs ++ ys) (accepted 0) f.0 f.1 ∙ sym (decide_first c cs (accepted 0) f.0 f.1))
     (search_all c)
+
+-- A table whose answer has number 0 is accepted.
+pub accepted_if : (bs : List ℕ) → (check bs).number ≡ 0 → check bs ≡ accepted 0
+unfolding check
+accepted_if bs z =
+    decide_clean (table_checks bs) (accepted 0)
+    (accepted_clean (table_checks bs) (accepted 0) (table_refusing bs) z)
 
 -- A refusal has a number.
 pub not_0 : (e : Refusal) → number_of e ≢ 0

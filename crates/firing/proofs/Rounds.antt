@@ -86,8 +86,12 @@ module _ (able : ℕ) (m rows arcs : List ℕ) (w s : List (List ℕ)) (lower : 
 module _ {able : ℕ} {m rows arcs : List ℕ} {w s : List (List ℕ)} {lower left out : ℕ}
     (d : Settled able m rows arcs w s lower left out) where
   -- With none left the set meets the rule.
+  pub none_left : ((t : ℕ) → t < 64 → bit left t ≡ false) → Fires able m rows arcs w s out
+  none_left none = record { meets = λ t h. d.meets t h (none t h) }
+
+  -- None is left in a set that is 0.
   pub at_end : left ≡ 0 → Fires able m rows arcs w s out
-  at_end none = record { meets = λ t h. d.meets t h (rw (none, bit_zero t)) }
+  at_end none = none_left (λ t h. rw (none, bit_zero t))
 
   -- A round leaves fewer: where all those left waited, each would have a rival of a lower rank among them.
   module _ {x : Round} (r : Decided left out m rows arcs w s x) where
@@ -110,6 +114,19 @@ module _ {able : ℕ} {m rows arcs : List ℕ} {w s : List (List ℕ)} {lower le
         (sym (r.waits u l) ∙ ap (λ (z : ℕ). bit z u) e ∙ q)) (suc (d.ranks.rank t)) t h (omega arith))
         ∙ sym (bit_zero t))) in
         omega (arith, and_le_l left x.left)
+
+    -- Those of rank k are decided by round k: where none of a lower rank is left before a round, none of rank k is
+    -- behind it.
+    pub gone : (k : ℕ) → ((t : ℕ) → t < 64 → d.ranks.rank t < k → bit left t ≡ false)
+        → (t : ℕ) → t < 64 → d.ranks.rank t < k + 1 → bit x.left t ≡ false
+    gone k none t h l = r.waits t h ∙ rw alone (and-false (bit left t))
+      where
+        rival : (u : ℕ) → u < 64 → (b : Bool) → bit (rivals_of arcs t) u ≡ b → (b && bit left u) ≡ false
+        rival u h' true e = none u h' (omega (arith, d.ranks.falls t u h h' e, l))
+        rival u h' false e = refl
+
+        alone : waits_for arcs left t ≡ false
+        alone = none_intro 64 _ (λ u h'. rival u h' (bit (rivals_of arcs t) u) refl)
 
   module _ {x : Round} (r : Decided left out m rows arcs w s x) (small : out < 2 ^ 64) (small' : x.out < 2 ^ 64) where
     abbrev keep : ℕ → ℕ → Bool

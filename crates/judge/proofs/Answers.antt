@@ -16,10 +16,11 @@ use Rattle.meaning.specs.Answer.{refused}
 use Rattle.meaning.specs.Defined.{bad_length, faulty, unknown, empty, isolated, check}
 use Rattle.meaning.proofs.Bool.{and_left, and_true, same_test, not_both}
 use Rattle.meaning.proofs.Reflect.{not_true_false}
-use Rattle.meaning.proofs.Below.{some_intro, some_elim, first_before, first_same, first_none}
+use Rattle.meaning.proofs.Below.{some_intro, some_elim, first_le, first_before, first_same, first_none}
 use Rattle.meaning.proofs.Same.{of_kind, shown_transition}
 use Rattle.meaning.proofs.Faults.{faultless}
 use Rattle.rows.specs.declared.Declared.{Declared}
+use Rattle.rows.specs.Extent.{Roomy}
 use Rattle.rows.specs.Rows.{has}
 use Rattle.rows.specs.Filed.{declares, Paired, Filed}
 use Rattle.rows.proofs.Shown.{one_low}
@@ -30,6 +31,10 @@ use Rattle.answers.specs.Numbered.{refusal_told}
 use Rattle.scan.specs.Scan.{FirstFault, AllFiled}
 use Rattle.judge.specs.Judged.{unknown_first, none_of, JudgeAsks, Judges}
 use Rattle.judge.proofs.Stages.{from_5, from_6, from_7, from_8, Left, past_1, stops, passes}
+
+-- A search that comes to its end.
+pub reached : (n : ℕ) (p : ℕ → Bool) {k : ℕ} → k ≡ first n p → n ≤ k → first n p ≡ n
+reached n p e l = omega (arith, first_le n p)
 
 -- A table whose length is right has at most 8,192 bytes.
 pub few_bytes : (bs : List ℕ) → bad_length bs ≡ false → length bs ≤ 8192
@@ -67,16 +72,15 @@ module _ (bs : List ℕ) (right : bad_length bs ≡ false) where
   pub verdict_2 : {e : Refusal} → FirstFault (table bs) e → refusal_told e ≡ check bs
   verdict_2 fault = fault.told ∙ stops bs _ (from_5 bs) (past_1 bs right) fault.some refl
 
-  pub no_fault : {n : ℕ} {known : Declared} {rows rows' : List ℕ} {w s w' s' : List (List ℕ)}
-      {heads posts times heads' posts' times' : List ℕ}
-      → JudgeAsks (table bs) n rows w s heads posts times → AllFiled (table bs) known rows' w' s' heads' posts' times'
-      → Faultless bs n known rows' w' s' heads' posts' times'
-  no_fault asks all =
+  pub no_fault : {n : ℕ} {known : Declared} {rows : List ℕ} {w s : List (List ℕ)} {heads posts times : List ℕ}
+      → n ≤ 128 → Roomy (table bs) n → AllFiled (table bs) known rows w s heads posts times
+      → Faultless bs n known rows w s heads posts times
+  no_fault few roomy all =
       record {
         left = passes bs _ (from_5 bs) (past_1 bs right) all.none;
         fine = fine;
-        few = asks.few;
-        below = λ r h. asks.roomy r h (one_low (faultless (table bs) r (fine r h)).0);
+        few = few;
+        below = λ r h. roomy r h (one_low (faultless (table bs) r (fine r h)).0);
         filed = all.filed;
         paired = all.paired;
       }

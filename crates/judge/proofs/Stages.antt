@@ -1,10 +1,13 @@
 -- The answers 1 to 9 one stage after the other: a stage that finds nothing hands on to the next, and the first that
 -- finds something answers.
-use mathlib.Core.Bool.{true, false}
+use mathlib.Core.Bool.{true, false, not, or-true}
 use mathlib.Core.List.{List, [], ◌∷◌}
 use mathlib.Core.Path.{◌≡◌, sym, ap, ◌∙◌}
-use Prim.Native.Nat.{ℕ, ◌+◌, ◌*◌, ◌<◌}
+use Prim.Native.Nat.{ℕ, ◌+◌, ◌*◌, ◌%◌, ◌≤◌, ◌<◌}
 use native.Mathlib.Omega.{arith}
+use lib.Dec.{eqb}
+use lib.ListN.{length}
+use borrow.Author.Tests.{lt-ltb, le-ltb, eq-eqb, ne_eqb}
 use Rattle.std.proofs.lemmas.Grind.{common_steps}
 use Rattle.meaning.specs.Below.{first}
 use Rattle.meaning.specs.Table.{table}
@@ -22,6 +25,19 @@ pub answers : (c : Check) (cs : List Check) (ok : Answer) → first c.below c.ba
     → decide (c ∷ cs) ok ≡ c.answer (first c.below c.bad)
 unfolding decide
 answers c cs ok l = grind (arith, common_steps)
+
+-- When the length is wrong, and when it is right.
+pub length_odd : (bs : List ℕ) → (length bs % 8 ≡ 0 → ⊥) → bad_length bs ≡ true
+unfolding bad_length
+length_odd bs e = rw (ne_eqb (length bs % 8) 0 e)
+
+pub length_long : (bs : List ℕ) → 8192 < length bs → bad_length bs ≡ true
+unfolding bad_length
+length_long bs l = rw (lt-ltb 8192 (length bs) l) (or-true (not (eqb (length bs % 8) 0)))
+
+pub length_right : (bs : List ℕ) → length bs % 8 ≡ 0 → length bs ≤ 8192 → bad_length bs ≡ false
+unfolding bad_length
+length_right bs e l = rw (eq-eqb (length bs % 8) 0 e, le-ltb 8192 (length bs) l)
 
 -- THE CHECKS OF A TABLE, FROM EACH STAGE ON
 

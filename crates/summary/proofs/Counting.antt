@@ -32,7 +32,7 @@ struck_more true true b = refl
 struck_more true false b = refl
 
 -- By the set of the unknown a record is strange exactly if it is by the table.
-strange_same : (tb : Table) (unknown : ℕ) (report : List ℕ)
+pub strange_same : (tb : Table) (unknown : ℕ) (report : List ℕ)
     → ((k : ℕ) → k < 64 → bit unknown k ≡ not (transition tb k))
     → (r : ℕ) → strange_by unknown report r ≡ strange tb report r
 unfolding strange_by strange

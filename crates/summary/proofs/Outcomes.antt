@@ -2,7 +2,7 @@
 use mathlib.Core.Bool.{Bool, true, false, ◌||◌}
 use mathlib.Core.List.{List, [], ◌∷◌, ◌++◌}
 use mathlib.Core.Logic.{◌≢◌}
-use mathlib.Core.Path.{◌≡◌, refl, sym, ap, ap₂, ◌∙◌}
+use mathlib.Core.Path.{◌≡◌, sym, ap, ap₂, ◌∙◌}
 use Prim.Native.Nat.{ℕ, ◌+◌, ◌/◌, ◌≤◌, ◌<◌}
 use native.Mathlib.Nat.{not-suc-le-zero}
 use native.Mathlib.Omega.{arith}
@@ -29,9 +29,8 @@ use Rattle.meaning.proofs.Decide.{AllClean, decide_pass, decide_first, decide_ap
 use Rattle.meaning.proofs.Demands.{check_number}
 use Rattle.meaning.proofs.Tables.{table_refusing}
 use Rattle.answers.specs.declared.Refusal.{Refusal}
-use Rattle.answers.specs.declared.Refusal.TheVariants as refusal
 use Rattle.answers.specs.Numbered.{number_of, at_of, refusal_told}
-use Rattle.engine.proofs.Starts.{refused_too}
+use Rattle.engine.proofs.Starts.{refused_too, accepted_if, not_0}
 use Rattle.summary.specs.declared.Refused.{Refused}
 use Rattle.summary.specs.declared.Refused.TheVariants.{Table}
 use Rattle.summary.specs.Day.{listed, empty, no_change, cycles_of, summary, plus, change, bad_report, strange}
@@ -47,44 +46,35 @@ use Rattle.summary.proofs.Refusals.{count_answer, add_answer, change_answer}
 abbrev number : Answer → ℕ
 number a = a.number
 
--- A refusal's number is not 0.
-refuses : (r : Refusal) → number_of r ≢ 0
-refuses refusal.Length z = omega (arith, z)
-refuses (refusal.Kind r) z = omega (arith, z)
-refuses (refusal.Field r) z = omega (arith, z)
-refuses (refusal.Twice r) z = omega (arith, z)
-refuses (refusal.Unknown r) z = omega (arith, z)
-refuses refusal.NoPlace z = omega (arith, z)
-refuses refusal.NoTransition z = omega (arith, z)
-refuses (refusal.Isolated n) z = omega (arith, z)
-refuses (refusal.Circle t) z = omega (arith, z)
-refuses (refusal.Conflict p) z = omega (arith, z)
-refuses (refusal.State r) z = omega (arith, z)
-refuses refusal.Words z = omega (arith, z)
-refuses refusal.Room z = omega (arith, z)
-refuses (refusal.Full p c) z = omega (arith, z)
-
 -- What `?` hands on of a refused table.
 pub handed : {A : Type 0} (r : Result A Refused) (t : Refusal) → IsErr r × IsErrAnd r (λ e. e ≡ Table t)
     → r ≡ Err (Table t)
 handed (Ok x) t h = absurd (false≢true h.0)
 handed (Err e) t h = ap Err h.1
 
--- An accepted table's checks are clean; a refused one decides whatever checks stand behind its own.
+-- An accepted table's checks are clean; a refused one's answer is a refusal before any cycle.
 clean : (bs : List ℕ) → (check bs).number ≡ 0 → AllClean (table_checks bs)
 unfolding check
 clean bs z = accepted_clean (table_checks bs) (accepted 0) (table_refusing bs) z
 
-refused_first : (bs : List ℕ) (ys : List Check) (r : Refusal) → Checked bs (refusal_told r)
-    → decide (table_checks bs ++ ys) (accepted 0) ≡ refused (number_of r) (at_of r)
-unfolding check
-refused_first bs ys r h =
-    refused_too (table_checks bs) ys (λ z. refuses r (ap number h.answer_is ∙ z))
-    ∙ (λ i. record { number = (check bs).number; at = (check bs).at; cycles = (check_number bs).1 i })
-    ∙ ap₂ refused (sym (ap number h.answer_is)) (sym (ap (λ (a : Answer). a.at) h.answer_is))
+pub its_refusal : (bs : List ℕ) → check bs ≡ refused (check bs).number (check bs).at
+its_refusal bs = λ i. record { number = (check bs).number; at = (check bs).at; cycles = (check_number bs).1 i }
 
-accepts : (bs : List ℕ) → Checked bs (accepted 0) → (check bs).number ≡ 0
+refused_first : (bs : List ℕ) (ys : List Check) → (check bs).number ≢ 0
+    → decide (table_checks bs ++ ys) (accepted 0) ≡ refused (check bs).number (check bs).at
+unfolding check
+refused_first bs ys n = refused_too (table_checks bs) ys n ∙ its_refusal bs
+
+-- What a check says of the table's answer: where it accepts, the number is 0; where it refuses, it is not, and number
+-- and where are the refusal's.
+pub accepts : (bs : List ℕ) → Checked bs (accepted 0) → (check bs).number ≡ 0
 accepts bs h = sym (ap number h.answer_is)
+
+pub refuses : (bs : List ℕ) (r : Refusal) → Checked bs (refusal_told r)
+    → ((check bs).number ≢ 0) × (refused (number_of r) (at_of r) ≡ refused (check bs).number (check bs).at)
+refuses bs r h =
+    let same = h.answer_is in
+    (λ z. not_0 r (ap number same ∙ z), ap₂ refused (ap number same) (ap (λ (a : Answer). a.at) same))
 
 -- A check that asks once.
 asked : (b : Bool) (n w : ℕ) (cs : List Check) → b ≡ true
@@ -108,42 +98,41 @@ module _ (bs report : List ℕ) where
         counts_are = sym (withheld _ (summary report) (λ z. n (sym (ap number d) ∙ z)));
       }
 
-  pub count_table : (r : Refusal) → Checked bs (refusal_told r)
-      → Counted bs report (refused (number_of r) (at_of r)) empty
+  pub count_table : (check bs).number ≢ 0 → Counted bs report (refused (check bs).number (check bs).at) empty
   unfolding count_checks
-  count_table r h = refuses_so _ (refuses r) (refused_first bs (report_checks (table bs) report) r h)
+  count_table n = refuses_so _ n (refused_first bs (report_checks (table bs) report) n)
 
-  behind : Checked bs (accepted 0)
+  behind : (check bs).number ≡ 0
       → decide (count_checks bs report) (accepted 0) ≡ decide (report_checks (table bs) report) (accepted 0)
   unfolding count_checks
-  behind h = decide_append (table_checks bs) (report_checks (table bs) report) (accepted 0) (clean bs (accepts bs h))
+  behind z = decide_append (table_checks bs) (report_checks (table bs) report) (accepted 0) (clean bs z)
 
-  pub count_length : Checked bs (accepted 0) → bad_report report ≡ true → Counted bs report (refused 14 512) empty
+  pub count_length : (check bs).number ≡ 0 → bad_report report ≡ true → Counted bs report (refused 14 512) empty
   unfolding report_checks
-  count_length h e = refuses_so _ (λ z. omega (arith, z)) (behind h ∙ asked (bad_report report) 14 512 _ e)
+  count_length z e = refuses_so _ (λ w. omega (arith, w)) (behind z ∙ asked (bad_report report) 14 512 _ e)
 
-  module _ (h : Checked bs (accepted 0)) (e : bad_report report ≡ false) where
+  module _ (z : (check bs).number ≡ 0) (e : bad_report report ≡ false) where
     strangers : decide (count_checks bs report) (accepted 0)
         ≡ decide (check_of (length report / 24) (strange (table bs) report) (λ r. refused 14 r) ∷ []) (accepted 0)
     unfolding report_checks
-    strangers = behind h ∙ passed (bad_report report) 14 512 _ e
+    strangers = behind z ∙ passed (bad_report report) 14 512 _ e
 
     pub count_stranger : (r : ℕ) → r < length report / 24 → first (length report / 24) (strange (table bs) report) ≡ r
         → Counted bs report (refused 14 r) empty
     count_stranger r l f =
         let low = rw (sym f) at l in
-        refuses_so _ (λ z. omega (arith, z))
+        refuses_so _ (λ w. omega (arith, w))
         (strangers
         ∙ decide_first _ [] (accepted 0) _ (low, first_passes _ _ low, first_before _ _)
         ∙ ap (refused 14) f)
 
-    pub count_all : first (length report / 24) (strange (table bs) report) ≡ length report / 24
+    pub count_all : length report / 24 ≤ first (length report / 24) (strange (table bs) report)
         → Counted bs report (accepted 0) (summary report)
     unfolding count decide
-    count_all f =
+    count_all h =
         let asks = check_of (length report / 24) (strange (table bs) report) (λ r. refused 14 r) in
         let quiet : (k : ℕ) → k < length report / 24 → strange (table bs) report k ≡ false =
-        λ k l. first_before (length report / 24) (strange (table bs) report) k (omega (arith, f, l)) in
+        λ k l. first_before (length report / 24) (strange (table bs) report) k (omega (arith, h, l)) in
         let none = strangers ∙ decide_pass asks [] (accepted 0) quiet in
         record {
           answer_is = sym (count_answer bs report ∙ none);
@@ -182,37 +171,36 @@ module _ (bs s : List ℕ) where
       let e = change_answer bs s ∙ d in
       record { answer_is = sym e; change_is = sym (withheld_change bs s (λ z. n (sym (ap number e) ∙ z))) }
 
-  pub change_table : (r : Refusal) → Checked bs (refusal_told r)
-      → NetChanged bs s (refused (number_of r) (at_of r)) no_change
+  pub change_table : (check bs).number ≢ 0 → NetChanged bs s (refused (check bs).number (check bs).at) no_change
   unfolding change_checks
-  change_table r h = changes_not _ (refuses r) (refused_first bs _ r h)
+  change_table n = changes_not _ n (refused_first bs _ n)
 
-  after : Checked bs (accepted 0)
+  after : (check bs).number ≡ 0
       → decide (change_checks bs s) (accepted 0)
       ≡ decide (check_of 1 (λ k. too_often s) (λ k. refused 15 0) ∷ []) (accepted 0)
   unfolding change_checks
-  after h = decide_append (table_checks bs) _ (accepted 0) (clean bs (accepts bs h))
+  after z = decide_append (table_checks bs) _ (accepted 0) (clean bs z)
 
-  pub change_often : Checked bs (accepted 0) → too_often s ≡ true → NetChanged bs s (refused 15 0) no_change
-  change_often h e = changes_not _ (λ z. omega (arith, z)) (after h ∙ asked (too_often s) 15 0 [] e)
+  pub change_often : (check bs).number ≡ 0 → too_often s ≡ true → NetChanged bs s (refused 15 0) no_change
+  change_often z e = changes_not _ (λ w. omega (arith, w)) (after z ∙ asked (too_often s) 15 0 [] e)
 
-  pub change_all : Checked bs (accepted 0) → too_often s ≡ false
+  pub change_all : (check bs).number ≡ 0 → too_often s ≡ false
       → NetChanged bs s (accepted 0) (listed 128 (change (table bs) s))
   unfolding decide
-  change_all h e =
-      let d = change_answer bs s ∙ after h ∙ passed (too_often s) 15 0 [] e in
+  change_all z e =
+      let d = change_answer bs s ∙ after z ∙ passed (too_often s) 15 0 [] e in
       record { answer_is = sym d; change_is = sym (given_change bs s (ap number d)) }
 
 -- An accepted table is no longer than 8,192 bytes, and its arcs stand between numbers in range.
-pub short : (bs : List ℕ) → Checked bs (accepted 0) → length bs ≤ 8192
-short bs h =
+pub short : (bs : List ℕ) → (check bs).number ≡ 0 → length bs ≤ 8192
+short bs z =
     ltb-false 8192 (length bs)
     (refuted (lt_decides 8192 (length bs))
-    (λ l. (check_accepts bs).0 (sym h.answer_is) 1 0 (TableSays.length_long l)))
+    (λ h. (check_accepts bs).0 (accepted_if bs z) 1 0 (TableSays.length_long h)))
 
-pub low_arcs : (bs : List ℕ) → Checked bs (accepted 0) → LowArcs (table bs)
-low_arcs bs h r l k =
-    let well = accepted_well bs (sym h.answer_is) in
+pub low_arcs : (bs : List ℕ) → (check bs).number ≡ 0 → LowArcs (table bs)
+low_arcs bs z r l k =
+    let well = accepted_well bs (accepted_if bs z) in
     (well.place_known ((table bs).one r) (well.arc_place r l k), well.arc_transition r l k)
 
 -- What is put less what is taken is the change.

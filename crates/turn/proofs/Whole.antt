@@ -77,18 +77,18 @@ module _ {bs : List ℕ} {net : Net} (laid : Laid bs net) where
   post_low : (r : ℕ) → r < tb.records → post tb r ≡ true → tb.two r < 64
   post_low r h e = (ranges (accepted_laid laid.net_of) r h (post_range r h e)).1
 
-  put_most : (f p : ℕ) → put_at f net.heads.now net.posts.now p ≤ 67107840
+  pub put_most : (f p : ℕ) → put_at f net.heads.now net.posts.now p ≤ 67107840
   put_most f p =
       put_low laid.net_of.filed.posted post_low (few_records bs laid.net_of.sound)
       (λ r h e. weight_low bs laid.net_of.sound r h (post_range r h e)) f p
 
   -- A transition of the table has its rows, and a place from which somebody takes has its row of weights.
-  rows_of : (t : ℕ) → transition tb t ≡ true → 8 * t + 8 ≤ length net.rows.now
+  pub rows_of : (t : ℕ) → transition tb t ≡ true → 8 * t + 8 ≤ length net.rows.now
   rows_of t e =
       let w = (transition_decides tb t).0 e in
       omega (arith, laid.net_of.below w.0 w.1, w.3, laid.sizes.rows_are)
 
-  weights_of : (p t : ℕ) → p < 128 → t < 64 → bit (takers net.rows.now p) t ≡ true → p < length net.weights.now
+  pub weights_of : (p t : ℕ) → p < 128 → t < 64 → bit (takers net.rows.now p) t ≡ true → p < length net.weights.now
   weights_of p t h l e = under (ltb p (8 * net.eights)) refl
     where
       under : (b : Bool) → ltb p (8 * net.eights) ≡ b → p < length net.weights.now
@@ -96,7 +96,7 @@ module _ {bs : List ℕ} {net : Net} (laid : Laid bs net) where
       under false q = not_both e (no_bit laid.net_of 1 p t (omega arith) (ltb-false p (8 * net.eights) q) h l)
 
   -- What tallying asks for of the chains.
-  chains : (c : Chains net.posts.now) × ((t : ℕ) → t < 64 → Leads c.arc (get_or net.heads.now t 0))
+  pub chains : (c : Chains net.posts.now) × ((t : ℕ) → t < 64 → Leads c.arc (get_or net.heads.now t 0))
   chains =
       chained laid.net_of.filed.posted laid.sizes.posts_are
       (λ r h e. (ranges (accepted_laid laid.net_of) r h (post_range r h e)).0)
@@ -110,7 +110,7 @@ module _ {bs : List ℕ} {net : Net} (laid : Laid bs net) where
     levels = told.poised.levels_hold
 
     -- Whom the places hold back is not enabled.
-    on_bit : (t : ℕ) → t < 64 → bit on t ≡ (transition tb t && enabled tb h.tokens t)
+    pub on_bit : (t : ℕ) → t < 64 → bit on t ≡ (transition tb t && enabled tb h.tokens t)
     on_bit t l =
         told.on_is t
         ∙ rw (
@@ -140,7 +140,7 @@ module _ {bs : List ℕ} {net : Net} (laid : Laid bs net) where
         able word told.ready_is told.able_is
 
     -- Whoever fires is a transition of the table, so it has its rows.
-    fired_known : (t : ℕ) → bit f t ≡ true → (t < 64) × (transition tb t ≡ true)
+    pub fired_known : (t : ℕ) → bit f t ≡ true → (t < 64) × (transition tb t ≡ true)
     unfolding firable
     fired_known t e =
         let l : t < 64 = bit_under f t told.low_set e in (

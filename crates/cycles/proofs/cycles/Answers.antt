@@ -7,12 +7,12 @@ use Rattle.turn.proofs.Rows.{no_bit}
 use Rattle.cycles.proofs.Turns.{load_asks, save_asks, begins, idle, finished, bursts, turned}
 use Rattle.cycles.proofs.cycles.Goals as goal
 
-pub load-state-requires : goal.load-state-requires
-load-state-requires c = load_asks c.requires.of
+pub load-requires : goal.load-requires
+load-requires c = load_asks c.requires.of
 
 pub level-requires : goal.level-requires
 level-requires c =
-    let load = c.load-state.ensures in
+    let load = c.load.ensures in
     let of = c.requires.of in
     let net = of.laid.net_of in
     record {
@@ -33,7 +33,7 @@ level-requires c =
 
 pub loop-i-init : goal.loop-i-init
 loop-i-init c =
-    let load = c.load-state.ensures in
+    let load = c.load.ensures in
     record {
       within = omega arith;
       at = λ bs of. begins of load;

@@ -2,13 +2,15 @@
 use mathlib.Core.Path.{sym, ◌∙◌}
 use Rattle.answers.specs.declared.Refusal.TheVariants as refusal
 use Rattle.judge.proofs.Stages.{answer_1}
+use Rattle.engine.proofs.Starts.{not_0}
 use Rattle.engine.proofs.Runs.{refused_by_table}
 use Rattle.engine.proofs.Room.{small, large}
 use Rattle.engine.proofs.run.Goals as goal
 
 pub returns-then-bad_length : goal.returns-then-bad_length
 returns-then-bad_length c =
-    refused_by_table _ _ _ _ refusal.Length (sym (answer_1 _ (sym c.bad_length.ensures ∙ c.if-bad_length.true)))
+    refused_by_table _ _ _ _ (sym (answer_1 _ (sym c.bad_length.ensures ∙ c.if-bad_length.true)))
+    (not_0 refusal.Length)
 
 -- The rows that are made are enough.
 pub run_in-requires-clause-roomy : goal.run_in-requires-clause-roomy

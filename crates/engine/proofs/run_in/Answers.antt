@@ -2,6 +2,7 @@
 use native.Mathlib.Omega.{arith}
 use Rattle.std.proofs.lemmas.Result.{err_from_is_err_and}
 use Rattle.engine.proofs.Room.{room, goes_on}
+use Rattle.engine.proofs.Starts.{not_0}
 use Rattle.engine.proofs.Runs.{refused_by_table}
 use Rattle.engine.proofs.run_in.Goals as goal
 
@@ -11,7 +12,7 @@ judge-requires-clause-judge_asks g c = room c.requires.roomy
 pub returns-in_err-known : goal.returns-in_err-known
 returns-in_err-known g c =
     let gone = err_from_is_err_and c.from_residual.result c.from_residual.ensures.1 in
-    rw (gone.1, gone.2) (refused_by_table _ _ _ _ c.in_err-known.field-0.0 c.in_err-known.ensures.answer)
+    rw (gone.1, gone.2) (refused_by_table _ _ _ _ c.in_err-known.ensures.answer (not_0 c.in_err-known.field-0.0))
 
 -- The rows of an accepted table.
 pub proceed-requires : goal.proceed-requires

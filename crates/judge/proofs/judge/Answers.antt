@@ -46,25 +46,29 @@ returns-in_err-known c =
 
 pub returns-in-Some : goal.returns-in-Some
 returns-in-Some c =
-    let fine = no_fault _ c.requires.right_length c.requires.judge_asks c.in_ok-known.ensures in
+    let asks = c.requires.judge_asks in
+    let fine = no_fault _ c.requires.right_length asks.few asks.roomy c.in_ok-known.ensures in
     refusal (verdict_5 fine c.in-Some.ensures)
 
 pub returns-in-Some-first_none : goal.returns-in-Some-first_none
 returns-in-Some-first_none c =
-    let fine = no_fault _ c.requires.right_length c.requires.judge_asks c.in_ok-known.ensures in
+    let asks = c.requires.judge_asks in
+    let fine = no_fault _ c.requires.right_length asks.few asks.roomy c.in_ok-known.ensures in
     let found = c.in-Some-first_none.ensures in
     refusal (found.1 ∙ verdict_6 fine (past_5 fine c.in_default.ensures) found.0)
 
 pub returns-in-Some-first_isolated : goal.returns-in-Some-first_isolated
 returns-in-Some-first_isolated c =
-    let fine = no_fault _ c.requires.right_length c.requires.judge_asks c.in_ok-known.ensures in
+    let asks = c.requires.judge_asks in
+    let fine = no_fault _ c.requires.right_length asks.few asks.roomy c.in_ok-known.ensures in
     refusal
     (verdict_7 fine (left_7 fine c.in_default.ensures c.in_default-first_none.ensures)
     c.in-Some-first_isolated.ensures)
 
 pub returns-in-Some-circle : goal.returns-in-Some-circle
 returns-in-Some-circle c =
-    let fine = no_fault _ c.requires.right_length c.requires.judge_asks c.in_ok-known.ensures in
+    let asks = c.requires.judge_asks in
+    let fine = no_fault _ c.requires.right_length asks.few asks.roomy c.in_ok-known.ensures in
     refusal
     (verdict_8 fine c.close.ensures
     (left_8 fine c.in_default.ensures c.in_default-first_none.ensures c.in_default-first_isolated.ensures)
@@ -72,7 +76,8 @@ returns-in-Some-circle c =
 
 pub returns-in-Some-least : goal.returns-in-Some-least
 returns-in-Some-least c =
-    let fine = no_fault _ c.requires.right_length c.requires.judge_asks c.in_ok-known.ensures in
+    let asks = c.requires.judge_asks in
+    let fine = no_fault _ c.requires.right_length asks.few asks.roomy c.in_ok-known.ensures in
     let left =
     left_9 fine c.in_default.ensures c.in_default-first_none.ensures c.in_default-first_isolated.ensures
     c.close.ensures c.in_default-circle.ensures in
@@ -83,7 +88,8 @@ returns-in-Some-least c =
 
 pub returns : goal.returns
 returns c =
-    let fine = no_fault _ c.requires.right_length c.requires.judge_asks c.in_ok-known.ensures in
+    let asks = c.requires.judge_asks in
+    let fine = no_fault _ c.requires.right_length asks.few asks.roomy c.in_ok-known.ensures in
     let declared = none_unknown fine c.in_default.ensures in
     let left =
     left_9 fine c.in_default.ensures c.in_default-first_none.ensures c.in_default-first_isolated.ensures
@@ -102,35 +108,39 @@ scan-requires-clause-t_len_bound c = few_bytes _ c.requires.right_length
 
 pub first_isolated-requires : goal.first_isolated-requires
 first_isolated-requires c =
-    let fine = no_fault _ c.requires.right_length c.requires.judge_asks c.in_ok-known.ensures in
-    (quiet (whole fine), omega (arith, rows_there c.requires.judge_asks, c.scan.auto.rows))
+    let asks = c.requires.judge_asks in
+    let fine = no_fault _ c.requires.right_length asks.few asks.roomy c.in_ok-known.ensures in
+    (quiet (whole fine), omega (arith, rows_there asks, c.scan.auto.rows))
 
 pub close-requires : goal.close-requires
 close-requires c =
-    let fine = no_fault _ c.requires.right_length c.requires.judge_asks c.in_ok-known.ensures in
+    let asks = c.requires.judge_asks in
+    let fine = no_fault _ c.requires.right_length asks.few asks.roomy c.in_ok-known.ensures in
     low_pairs fine (none_unknown fine c.in_default.ensures) c.transitions-m.ensures
-    (omega (arith, rows_there c.requires.judge_asks, c.scan.auto.rows))
+    (omega (arith, rows_there asks, c.scan.auto.rows))
 
 pub circle-requires : goal.circle-requires
 circle-requires c =
-    let fine = no_fault _ c.requires.right_length c.requires.judge_asks c.in_ok-known.ensures in
+    let asks = c.requires.judge_asks in
+    let fine = no_fault _ c.requires.right_length asks.few asks.roomy c.in_ok-known.ensures in
     low_kept
     (low_pairs fine (none_unknown fine c.in_default.ensures) c.transitions-m.ensures
-    (omega (arith, rows_there c.requires.judge_asks, c.scan.auto.rows)))
+    (omega (arith, rows_there asks, c.scan.auto.rows)))
     c.close.ensures
 
 pub conflicts-requires : goal.conflicts-requires
 conflicts-requires c =
-    let fine = no_fault _ c.requires.right_length c.requires.judge_asks c.in_ok-known.ensures in (
+    let asks = c.requires.judge_asks in
+    let fine = no_fault _ c.requires.right_length asks.few asks.roomy c.in_ok-known.ensures in (
       takerless fine c.close.ensures (none_unknown fine c.in_default.ensures)
-          (rw c.close.ensures.size (omega (arith, rows_there c.requires.judge_asks, c.scan.auto.rows))),
+          (rw c.close.ensures.size (omega (arith, rows_there asks, c.scan.auto.rows))),
       refl,
     )
 
 pub least-requires : goal.least-requires
 least-requires c =
     let asks = c.requires.judge_asks in
-    let fine = no_fault _ c.requires.right_length asks c.in_ok-known.ensures in
+    let fine = no_fault _ c.requires.right_length asks.few asks.roomy c.in_ok-known.ensures in
     least_asks fine c.close.ensures (none_unknown fine c.in_default.ensures) c.conflicts.ensures
     (rw c.close.ensures.size (omega (arith, rows_there asks, c.scan.auto.rows)))
     (omega (arith, asks.enough, c.scan.auto.w)) (omega (arith, sorts_there asks, c.scan.auto.s))

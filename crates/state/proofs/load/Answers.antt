@@ -60,9 +60,9 @@ loop-t-preserved c =
             listed = listed;
             rest = rest;
             marked =
-                marked_more t _ before.orders w.union.result at.marked
+                marked_more t _ before.orders w.union-state.result at.marked
                 (ap (λ (x : ℕ). eqb x 1) third ∙ eq-eqb _ 1 w.if-image-t-eq1.true)
-                (λ j. w.union.ensures j ∙ ap (λ (b : Bool). bit before.orders j || b) (w.single.ensures j));
+                (λ j. w.union-state.ensures j ∙ ap (λ (b : Bool). bit before.orders j || b) (w.single.ensures j));
           }
       | else-image-t-eq1 w ↦
           rw w.state-is

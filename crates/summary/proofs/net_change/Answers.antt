@@ -1,26 +1,31 @@
 -- Each way out is one of the three cases of what net change leaves.
 use mathlib.Core.Path.{sym, ◌∙◌}
-use Rattle.summary.proofs.Outcomes.{handed, low_arcs, change_table, change_often, change_all, change_by}
+use Rattle.summary.proofs.Outcomes.{handed, accepts, refuses}
+use Rattle.summary.proofs.Outcomes.{low_arcs, change_table, change_often, change_all, change_by}
 use Rattle.summary.proofs.net_change.Goals as goal
 
 pub returns-in_err-check : goal.returns-in_err-check
 returns-in_err-check c =
-    rw (handed _ _ c.from_residual.ensures) (change_table _ _ _ c.in_err-check.ensures)
+    let said = refuses _ _ c.in_err-check.ensures in
+    let left = change_table _ _ said.0 in
+    rw (handed _ _ c.from_residual.ensures)
+    (record { answer_is = said.1 ∙ left.answer_is; change_is = left.change_is })
 
 pub returns-then-fires_too_often : goal.returns-then-fires_too_often
 returns-then-fires_too_often c =
-    change_often _ _ c.in_ok-check.ensures (sym c.fires_too_often.ensures ∙ c.if-fires_too_often.true)
+    change_often _ _ (accepts _ c.in_ok-check.ensures) (sym c.fires_too_often.ensures ∙ c.if-fires_too_often.true)
 
 -- The arcs of an accepted table are in range.
 pub moves-put-requires-clause-low_arcs : goal.moves-put-requires-clause-low_arcs
-moves-put-requires-clause-low_arcs c = low_arcs _ c.in_ok-check.ensures
+moves-put-requires-clause-low_arcs c = low_arcs _ (accepts _ c.in_ok-check.ensures)
 
 pub moves-taken-requires-clause-low_arcs : goal.moves-taken-requires-clause-low_arcs
-moves-taken-requires-clause-low_arcs c = low_arcs _ c.in_ok-check.ensures
+moves-taken-requires-clause-low_arcs c = low_arcs _ (accepts _ c.in_ok-check.ensures)
 
 pub returns : goal.returns
 returns c =
-    let left = change_all _ _ c.in_ok-check.ensures (sym c.fires_too_often.ensures ∙ c.if-fires_too_often.false) in
+    let left =
+    change_all _ _ (accepts _ c.in_ok-check.ensures) (sym c.fires_too_often.ensures ∙ c.if-fires_too_often.false) in
     record {
       answer_is = left.answer_is;
       change_is =
