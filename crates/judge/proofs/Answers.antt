@@ -88,6 +88,13 @@ module _ (bs : List ℕ) (right : bad_length bs ≡ false) where
       fine : (r : ℕ) → r < (table bs).records → faulty (table bs) r ≡ false
       fine r h = first_before (table bs).records (faulty (table bs)) r (rw all.none h)
 
+  -- The same by all that judge asks.
+  pub no_fault_asked : {n : ℕ} {known : Declared} {rows rows' : List ℕ} {w s w' s' : List (List ℕ)}
+      {heads posts times heads' posts' times' : List ℕ}
+      → JudgeAsks (table bs) n rows w s heads posts times → AllFiled (table bs) known rows' w' s' heads' posts' times'
+      → Faultless bs n known rows' w' s' heads' posts' times'
+  no_fault_asked asks = no_fault asks.few asks.roomy
+
 module _ {bs : List ℕ} {n : ℕ} {known : Declared} {rows : List ℕ} {w s : List (List ℕ)} {heads posts times : List ℕ}
     (f : Faultless bs n known rows w s heads posts times) where
   pub whole : Whole (table bs) n rows known

@@ -52,11 +52,12 @@ pub handed : {A : Type 0} (r : Result A Refused) (t : Refusal) → IsErr r × Is
 handed (Ok x) t h = absurd (false≢true h.0)
 handed (Err e) t h = ap Err h.1
 
--- An accepted table's checks are clean; a refused one's answer is a refusal before any cycle.
+-- An accepted table's checks are clean.
 clean : (bs : List ℕ) → (check bs).number ≡ 0 → AllClean (table_checks bs)
 unfolding check
 clean bs z = accepted_clean (table_checks bs) (accepted 0) (table_refusing bs) z
 
+-- A table's answer is of before any cycle; a refused one decides whatever checks stand behind its own.
 pub its_refusal : (bs : List ℕ) → check bs ≡ refused (check bs).number (check bs).at
 its_refusal bs = λ i. record { number = (check bs).number; at = (check bs).at; cycles = (check_number bs).1 i }
 
@@ -70,7 +71,7 @@ refused_first bs ys n = refused_too (table_checks bs) ys n ∙ its_refusal bs
 pub accepts : (bs : List ℕ) → Checked bs (accepted 0) → (check bs).number ≡ 0
 accepts bs h = sym (ap number h.answer_is)
 
-pub refuses : (bs : List ℕ) (r : Refusal) → Checked bs (refusal_told r)
+refuses : (bs : List ℕ) (r : Refusal) → Checked bs (refusal_told r)
     → ((check bs).number ≢ 0) × (refused (number_of r) (at_of r) ≡ refused (check bs).number (check bs).at)
 refuses bs r h =
     let same = h.answer_is in
@@ -101,6 +102,11 @@ module _ (bs report : List ℕ) where
   pub count_table : (check bs).number ≢ 0 → Counted bs report (refused (check bs).number (check bs).at) empty
   unfolding count_checks
   count_table n = refuses_so _ n (refused_first bs (report_checks (table bs) report) n)
+
+  -- The same by the refusal that a check hands on.
+  pub count_refused : (r : Refusal) → Checked bs (refusal_told r)
+      → Counted bs report (refused (number_of r) (at_of r)) empty
+  count_refused r h = rw (refuses bs r h).1 (count_table (refuses bs r h).0)
 
   behind : (check bs).number ≡ 0
       → decide (count_checks bs report) (accepted 0) ≡ decide (report_checks (table bs) report) (accepted 0)
@@ -174,6 +180,10 @@ module _ (bs s : List ℕ) where
   pub change_table : (check bs).number ≢ 0 → NetChanged bs s (refused (check bs).number (check bs).at) no_change
   unfolding change_checks
   change_table n = changes_not _ n (refused_first bs _ n)
+
+  pub change_refused : (r : Refusal) → Checked bs (refusal_told r)
+      → NetChanged bs s (refused (number_of r) (at_of r)) no_change
+  change_refused r h = rw (refuses bs r h).1 (change_table (refuses bs r h).0)
 
   after : (check bs).number ≡ 0
       → decide (change_checks bs s) (accepted 0)

@@ -16,7 +16,7 @@ use Rattle.closure.proofs.Priority.{low_kept}
 use Rattle.judge.specs.Judged.{unknown_first, none_of}
 use Rattle.judge.proofs.Stages.{from_7, from_8, from_9, Left}
 use Rattle.judge.proofs.Answers.{few_bytes, refusal, Faultless, whole, rows_there, sorts_there}
-use Rattle.judge.proofs.Answers.{verdict_2, no_fault, verdict_5, none_unknown, past_5}
+use Rattle.judge.proofs.Answers.{verdict_2, no_fault_asked, verdict_5, none_unknown, past_5}
 use Rattle.judge.proofs.Answers.{verdict_6, past_6, verdict_7, past_7}
 use Rattle.judge.proofs.Ranks.{low_pairs, verdict_8, past_8, takerless, least_asks}
 use Rattle.judge.proofs.Ranks.{verdict_9, accepted_is, net_of}
@@ -46,29 +46,25 @@ returns-in_err-known c =
 
 pub returns-in-Some : goal.returns-in-Some
 returns-in-Some c =
-    let asks = c.requires.judge_asks in
-    let fine = no_fault _ c.requires.right_length asks.few asks.roomy c.in_ok-known.ensures in
+    let fine = no_fault_asked _ c.requires.right_length c.requires.judge_asks c.in_ok-known.ensures in
     refusal (verdict_5 fine c.in-Some.ensures)
 
 pub returns-in-Some-first_none : goal.returns-in-Some-first_none
 returns-in-Some-first_none c =
-    let asks = c.requires.judge_asks in
-    let fine = no_fault _ c.requires.right_length asks.few asks.roomy c.in_ok-known.ensures in
+    let fine = no_fault_asked _ c.requires.right_length c.requires.judge_asks c.in_ok-known.ensures in
     let found = c.in-Some-first_none.ensures in
     refusal (found.1 ∙ verdict_6 fine (past_5 fine c.in_default.ensures) found.0)
 
 pub returns-in-Some-first_isolated : goal.returns-in-Some-first_isolated
 returns-in-Some-first_isolated c =
-    let asks = c.requires.judge_asks in
-    let fine = no_fault _ c.requires.right_length asks.few asks.roomy c.in_ok-known.ensures in
+    let fine = no_fault_asked _ c.requires.right_length c.requires.judge_asks c.in_ok-known.ensures in
     refusal
     (verdict_7 fine (left_7 fine c.in_default.ensures c.in_default-first_none.ensures)
     c.in-Some-first_isolated.ensures)
 
 pub returns-in-Some-circle : goal.returns-in-Some-circle
 returns-in-Some-circle c =
-    let asks = c.requires.judge_asks in
-    let fine = no_fault _ c.requires.right_length asks.few asks.roomy c.in_ok-known.ensures in
+    let fine = no_fault_asked _ c.requires.right_length c.requires.judge_asks c.in_ok-known.ensures in
     refusal
     (verdict_8 fine c.close.ensures
     (left_8 fine c.in_default.ensures c.in_default-first_none.ensures c.in_default-first_isolated.ensures)
@@ -76,8 +72,7 @@ returns-in-Some-circle c =
 
 pub returns-in-Some-least : goal.returns-in-Some-least
 returns-in-Some-least c =
-    let asks = c.requires.judge_asks in
-    let fine = no_fault _ c.requires.right_length asks.few asks.roomy c.in_ok-known.ensures in
+    let fine = no_fault_asked _ c.requires.right_length c.requires.judge_asks c.in_ok-known.ensures in
     let left =
     left_9 fine c.in_default.ensures c.in_default-first_none.ensures c.in_default-first_isolated.ensures
     c.close.ensures c.in_default-circle.ensures in
@@ -88,8 +83,7 @@ returns-in-Some-least c =
 
 pub returns : goal.returns
 returns c =
-    let asks = c.requires.judge_asks in
-    let fine = no_fault _ c.requires.right_length asks.few asks.roomy c.in_ok-known.ensures in
+    let fine = no_fault_asked _ c.requires.right_length c.requires.judge_asks c.in_ok-known.ensures in
     let declared = none_unknown fine c.in_default.ensures in
     let left =
     left_9 fine c.in_default.ensures c.in_default-first_none.ensures c.in_default-first_isolated.ensures
@@ -108,39 +102,35 @@ scan-requires-clause-t_len_bound c = few_bytes _ c.requires.right_length
 
 pub first_isolated-requires : goal.first_isolated-requires
 first_isolated-requires c =
-    let asks = c.requires.judge_asks in
-    let fine = no_fault _ c.requires.right_length asks.few asks.roomy c.in_ok-known.ensures in
-    (quiet (whole fine), omega (arith, rows_there asks, c.scan.auto.rows))
+    let fine = no_fault_asked _ c.requires.right_length c.requires.judge_asks c.in_ok-known.ensures in
+    (quiet (whole fine), omega (arith, rows_there c.requires.judge_asks, c.scan.auto.rows))
 
 pub close-requires : goal.close-requires
 close-requires c =
-    let asks = c.requires.judge_asks in
-    let fine = no_fault _ c.requires.right_length asks.few asks.roomy c.in_ok-known.ensures in
+    let fine = no_fault_asked _ c.requires.right_length c.requires.judge_asks c.in_ok-known.ensures in
     low_pairs fine (none_unknown fine c.in_default.ensures) c.transitions-m.ensures
-    (omega (arith, rows_there asks, c.scan.auto.rows))
+    (omega (arith, rows_there c.requires.judge_asks, c.scan.auto.rows))
 
 pub circle-requires : goal.circle-requires
 circle-requires c =
-    let asks = c.requires.judge_asks in
-    let fine = no_fault _ c.requires.right_length asks.few asks.roomy c.in_ok-known.ensures in
+    let fine = no_fault_asked _ c.requires.right_length c.requires.judge_asks c.in_ok-known.ensures in
     low_kept
     (low_pairs fine (none_unknown fine c.in_default.ensures) c.transitions-m.ensures
-    (omega (arith, rows_there asks, c.scan.auto.rows)))
+    (omega (arith, rows_there c.requires.judge_asks, c.scan.auto.rows)))
     c.close.ensures
 
 pub conflicts-requires : goal.conflicts-requires
 conflicts-requires c =
-    let asks = c.requires.judge_asks in
-    let fine = no_fault _ c.requires.right_length asks.few asks.roomy c.in_ok-known.ensures in (
+    let fine = no_fault_asked _ c.requires.right_length c.requires.judge_asks c.in_ok-known.ensures in (
       takerless fine c.close.ensures (none_unknown fine c.in_default.ensures)
-          (rw c.close.ensures.size (omega (arith, rows_there asks, c.scan.auto.rows))),
+          (rw c.close.ensures.size (omega (arith, rows_there c.requires.judge_asks, c.scan.auto.rows))),
       refl,
     )
 
 pub least-requires : goal.least-requires
 least-requires c =
     let asks = c.requires.judge_asks in
-    let fine = no_fault _ c.requires.right_length asks.few asks.roomy c.in_ok-known.ensures in
+    let fine = no_fault_asked _ c.requires.right_length asks c.in_ok-known.ensures in
     least_asks fine c.close.ensures (none_unknown fine c.in_default.ensures) c.conflicts.ensures
     (rw c.close.ensures.size (omega (arith, rows_there asks, c.scan.auto.rows)))
     (omega (arith, asks.enough, c.scan.auto.w)) (omega (arith, sorts_there asks, c.scan.auto.s))

@@ -6,16 +6,11 @@ use lib.ListN.{length}
 use Rattle.meaning.specs.Table.{table}
 use Rattle.summary.proofs.Refusals.{right_length}
 use Rattle.summary.proofs.Counting.{first_strange_same}
-use Rattle.summary.proofs.Outcomes.{handed, accepts, refuses}
-use Rattle.summary.proofs.Outcomes.{count_table, count_length, count_stranger, count_all}
+use Rattle.summary.proofs.Outcomes.{handed, accepts, count_refused, count_length, count_stranger, count_all}
 use Rattle.summary.proofs.count.Goals as goal
 
 pub returns-in_err-check : goal.returns-in_err-check
-returns-in_err-check c =
-    let said = refuses _ _ c.in_err-check.ensures in
-    let left = count_table _ _ said.0 in
-    rw (handed _ _ c.from_residual.ensures)
-    (record { answer_is = said.1 ∙ left.answer_is; counts_are = left.counts_are })
+returns-in_err-check c = rw (handed _ _ c.from_residual.ensures) (count_refused _ _ _ c.in_err-check.ensures)
 
 pub returns-then-is_bad : goal.returns-then-is_bad
 returns-then-is_bad c = count_length _ _ (accepts _ c.in_ok-check.ensures) (sym c.is_bad.ensures ∙ c.if-is_bad.true)

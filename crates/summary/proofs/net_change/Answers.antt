@@ -1,15 +1,11 @@
 -- Each way out is one of the three cases of what net change leaves.
 use mathlib.Core.Path.{sym, ◌∙◌}
-use Rattle.summary.proofs.Outcomes.{handed, accepts, refuses}
-use Rattle.summary.proofs.Outcomes.{low_arcs, change_table, change_often, change_all, change_by}
+use Rattle.summary.proofs.Outcomes.{handed, accepts, low_arcs, change_refused, change_often, change_all, change_by}
 use Rattle.summary.proofs.net_change.Goals as goal
 
 pub returns-in_err-check : goal.returns-in_err-check
 returns-in_err-check c =
-    let said = refuses _ _ c.in_err-check.ensures in
-    let left = change_table _ _ said.0 in
-    rw (handed _ _ c.from_residual.ensures)
-    (record { answer_is = said.1 ∙ left.answer_is; change_is = left.change_is })
+    rw (handed _ _ c.from_residual.ensures) (change_refused _ _ _ c.in_err-check.ensures)
 
 pub returns-then-fires_too_often : goal.returns-then-fires_too_often
 returns-then-fires_too_often c =
